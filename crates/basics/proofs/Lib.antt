@@ -1,0 +1,4 @@
+-- Laws of the definitions of specs/, for every crate to cite.
+pub mod Choice
+pub mod Lists
+pub mod Walk

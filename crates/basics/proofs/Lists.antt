@@ -1,0 +1,128 @@
+-- Laws of members, sums and counts. Assumes nothing.
+use mathlib.Core.Path.{_≡_, refl, sym, ap, ap₂, _∙_, subst}
+use Prim.Native.Nat.{ℕ, zero, suc, _+_, _≤_, _<_}
+use native.Mathlib.Omega.{arith}
+use mathlib.Core.Bool.{Bool, true, false, not, _&&_}
+use mathlib.Core.List.{List, [], _∷_, _++_}
+use lib.ListN.{length, getD, take}
+use lib.Dec.{T}
+use Rattle.basics.specs.Choice.{pick, bit}
+use Rattle.basics.specs.Lists.{All, Any, here, there, total, tally, those, table}
+use Rattle.basics.proofs.Choice.{by-test, bit-true, bit-false, bit-le}
+
+-- ---- every member, some member
+
+pub all-append {ℓ} : {A : Type ℓ} (P : A → Type 0) (xs ys : List A) → All P xs → All P ys → All P (xs ++ ys)
+all-append P [] ys h g = g
+all-append P (x ∷ xs) ys h g = (h .0, all-append P xs ys (h .1) g)
+
+pub all-map {ℓ} : {A : Type ℓ} (P Q : A → Type 0) → ((a : A) → P a → Q a) → (xs : List A) → All P xs → All Q xs
+all-map P Q f [] h = tt
+all-map P Q f (x ∷ xs) h = (f x (h .0), all-map P Q f xs (h .1))
+
+pub any-left {ℓ} : {A : Type ℓ} (P : A → Type 0) {xs : List A} (ys : List A) → Any P xs → Any P (xs ++ ys)
+any-left P ys (here h) = here h
+any-left P ys (there h) = there (any-left P ys h)
+
+pub any-right {ℓ} : {A : Type ℓ} (P : A → Type 0) (xs : List A) {ys : List A} → Any P ys → Any P (xs ++ ys)
+any-right P [] h = h
+any-right P (x ∷ xs) h = there (any-right P xs h)
+
+-- ---- sums
+
+pub total-append {ℓ} : {A : Type ℓ} (W : A → ℕ) (xs ys : List A) → total W (xs ++ ys) ≡ total W xs + total W ys
+total-append W [] ys = omega arith
+total-append W (x ∷ xs) ys = omega (arith, total-append W xs ys)
+
+-- ---- tables
+
+pub getD-table {ℓ} : {A : Type ℓ} (f : ℕ → A) (n l : ℕ) (d : A) → l < n → getD (table f n) l d ≡ f l
+getD-table f zero l d h = absurd (omega arith)
+getD-table f (suc n) zero d h = refl
+getD-table f (suc n) (suc l) d h = getD-table (λ k. f (suc k)) n l d (omega arith)
+
+pub length-table {ℓ} : {A : Type ℓ} (f : ℕ → A) (n : ℕ) → length (table f n) ≡ n
+length-table f zero = refl
+length-table f (suc n) = ap suc (length-table (λ k. f (suc k)) n)
+
+-- one more entry, at the end
+pub table-next {ℓ} : {A : Type ℓ} (f : ℕ → A) (n : ℕ) → table f (suc n) ≡ table f n ++ (f n ∷ [])
+table-next f zero = refl
+table-next f (suc n) = ap (λ l. f 0 ∷ l) (table-next (λ k. f (suc k)) n)
+
+-- entries that agree
+pub table-same {ℓ} : {A : Type ℓ} (f g : ℕ → A) (n : ℕ) → ((k : ℕ) → k < n → f k ≡ g k) → table f n ≡ table g n
+table-same f g zero h = refl
+table-same f g (suc n) h = ap₂ (λ x l. x ∷ l) (h 0 (omega arith)) (table-same (λ k. f (suc k)) (λ k. g (suc k)) n (λ k l. h (suc k) (omega arith)))
+
+-- ---- counts
+
+pub tally-le {ℓ} : {A : Type ℓ} (p : A → Bool) (xs : List A) → tally p xs ≤ length xs
+tally-le p [] = omega arith
+tally-le p (x ∷ xs) = omega (arith, bit-le (p x), tally-le p xs)
+
+pub tally-append {ℓ} : {A : Type ℓ} (p : A → Bool) (xs ys : List A) → tally p (xs ++ ys) ≡ tally p xs + tally p ys
+tally-append p [] ys = omega arith
+tally-append p (x ∷ xs) ys = omega (arith, tally-append p xs ys)
+
+pub tally-mono {ℓ} : {A : Type ℓ} (p q : A → Bool) → ((a : A) → bit (p a) ≤ bit (q a)) → (xs : List A) → tally p xs ≤ tally q xs
+tally-mono p q f [] = omega arith
+tally-mono p q f (x ∷ xs) = omega (arith, f x, tally-mono p q f xs)
+
+-- a count is the sum of the counts of its two parts
+pub tally-parts {ℓ} : {A : Type ℓ} (p q w : A → Bool) → ((a : A) → bit (w a) ≡ bit (p a) + bit (q a)) → (xs : List A)
+    → tally w xs ≡ tally p xs + tally q xs
+tally-parts p q w f [] = omega arith
+tally-parts p q w f (x ∷ xs) = omega (arith, f x, tally-parts p q w f xs)
+
+-- two tests that agree on the members count alike
+pub tally-same {ℓ} : {A : Type ℓ} (p q : A → Bool) (xs : List A) → All (λ a. bit (p a) ≡ bit (q a)) xs → tally p xs ≡ tally q xs
+tally-same p q [] h = refl
+tally-same p q (x ∷ xs) h = omega (arith, h .0, tally-same p q xs (h .1))
+
+pub tally-none {ℓ} : {A : Type ℓ} (p : A → Bool) (xs : List A) → All (λ a. T (not (p a))) xs → tally p xs ≡ 0
+tally-none p [] h = refl
+tally-none p (x ∷ xs) h = omega (arith, bit-false (p x) (h .0), tally-none p xs (h .1))
+
+-- one member more of a list's front
+pub tally-next {ℓ} : {A : Type ℓ} (p : A → Bool) (xs : List A) (d : A) (i : ℕ) → i < length xs
+    → tally p (take (suc i) xs) ≡ tally p (take i xs) + bit (p (getD xs i d))
+tally-next p [] d i h = absurd (omega arith)
+tally-next p (x ∷ xs) d zero h = omega arith
+tally-next p (x ∷ xs) d (suc i) h = omega (arith, tally-next p xs d i (omega arith))
+
+-- where just the first n members pass, n do
+pub tally-front {ℓ} : {A : Type ℓ} (p : A → Bool) (xs : List A) (d : A) (n : ℕ) → n ≤ length xs
+    → ((i : ℕ) → i < n → T (p (getD xs i d))) → ((i : ℕ) → n ≤ i → i < length xs → T (not (p (getD xs i d)))) → tally p xs ≡ n
+tally-front p [] d n h f g = omega arith
+tally-front p (x ∷ xs) d zero h f g =
+    omega (arith, bit-false (p x) (g 0 (omega arith) (omega arith)), tally-front p xs d 0 (omega arith) (λ i k. absurd (omega arith)) (λ i k l. g (suc i) (omega arith) (omega arith)))
+tally-front p (x ∷ xs) d (suc n) h f g =
+    omega (arith, bit-true (p x) (f 0 (omega arith)), tally-front p xs d n (omega arith) (λ i k. f (suc i) (omega arith)) (λ i k l. g (suc i) (omega arith) (omega arith)))
+
+-- ---- the members that pass
+
+pub length-those {ℓ} : {A : Type ℓ} (p : A → Bool) (xs : List A) → length (those p xs) ≡ tally p xs
+length-those p [] = refl
+length-those p (x ∷ xs) =
+    by-test (λ l. length l ≡ bit (p x) + tally p xs) (p x)
+    (λ t. omega (arith, bit-true (p x) t, length-those p xs)) (λ t. omega (arith, bit-false (p x) t, length-those p xs))
+
+and-bit-true : (a b : Bool) → T a → bit (a && b) ≡ bit b
+and-bit-true true b t = refl
+and-bit-true false b t = absurd t
+
+and-bit-false : (a b : Bool) → T (not a) → bit (a && b) ≡ 0
+and-bit-false true b t = absurd t
+and-bit-false false b t = refl
+
+pub tally-those {ℓ} : {A : Type ℓ} (p q : A → Bool) (xs : List A) → tally q (those p xs) ≡ tally (λ x. p x && q x) xs
+tally-those p q [] = refl
+tally-those p q (x ∷ xs) =
+    by-test (λ l. tally q l ≡ bit (p x && q x) + tally (λ x. p x && q x) xs) (p x)
+    (λ t. omega (arith, and-bit-true (p x) (q x) t, tally-those p q xs)) (λ t. omega (arith, and-bit-false (p x) (q x) t, tally-those p q xs))
+
+pub all-those {ℓ} : {A : Type ℓ} (P : A → Type 0) (p : A → Bool) (xs : List A) → All P xs → All P (those p xs)
+all-those P p [] h = tt
+all-those P p (x ∷ xs) h =
+    by-test (All P) (p x) (λ _. (h .0, all-those P p xs (h .1))) (λ _. all-those P p xs (h .1))
