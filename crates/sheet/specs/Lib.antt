@@ -1,0 +1,7 @@
+pub mod Limits
+pub mod Reasons
+pub mod Sheet
+pub mod Sound
+pub mod Check
+pub mod Laws
+pub mod Ready
