@@ -1,0 +1,4 @@
+pub mod Sorting
+pub mod Prepared
+pub mod Steps
+pub mod Laws

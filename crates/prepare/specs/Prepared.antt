@@ -1,0 +1,116 @@
+-- What the preparer answers and writes (document 01, "The sheet and its numbers" and "Reasons a call turns back"). Definitions only.
+use Prim.Native.Nat.{ℕ, zero, suc, _+_, _-_, _*_}
+use mathlib.Core.Path.{_≡_}
+use mathlib.Core.Bool.{Bool, not, _&&_, _||_}
+use mathlib.Core.List.{List, [], _∷_, _++_}
+use mathlib.Core.Option.{Option, none, some}
+use lib.ListN.{length, getD, take, drop, replicate}
+use lib.Dec.{leb, ltb, eqb}
+use lib.Ieee.{Float, nan, lt, eq}
+use Rattle.basics.specs.Choice.{pick}
+use Rattle.basics.specs.Lists.{those}
+use Rattle.basics.specs.Walk.{walk}
+use Rattle.threshold.specs.Threshold.{within}
+use Rattle.sheet.specs.Limits.{mostRows, mostColumns}
+use Rattle.sheet.specs.Reasons.{sizeOutside, lengthWrong, scratchShort, valueOutside}
+use Rattle.prepare.specs.Sorting.{rowsFrom, sorted}
+use Rattle.prepare.specs.declared.Prepared.{Prepared}
+use Rattle.prepare.specs.declared.Prepared.the-variants.{Done, Refused}
+
+-- ---- one column
+
+-- "Value of row r in column c lies at c·rows+r.": column c's values, row by row
+unfoldable pub columnOf : ℕ → List Float → ℕ → List Float
+columnOf rows values c = take rows (drop (c * rows) values)
+
+-- the value of a row
+abbrev pub valueIn : List Float → ℕ → Float
+valueIn column r = getD column r nan
+
+-- "ascending", "ties go by row number"
+unfoldable pub precedes : List Float → ℕ → ℕ → Bool
+precedes column a b = lt (valueIn column a) (valueIn column b) || (eq (valueIn column a) (valueIn column b) && ltb a b)
+
+-- "The order list has, at c·rows+i, the row at sorted place i, ascending."
+unfoldable pub orderOf : ℕ → List Float → List ℕ
+orderOf rows column = sorted (precedes column) (rowsFrom 0 rows)
+
+-- "A cut is a place i ≥ 1 whose value is above that at i−1."
+unfoldable pub isCut : List Float → List ℕ → ℕ → Bool
+isCut column order i = leb 1 i && lt (valueIn column (getD order (i - 1) 0)) (valueIn column (getD order i 0))
+
+-- the cuts of a column in some order, ascending
+unfoldable pub cutsAlong : List Float → List ℕ → List ℕ
+cutsAlong column order = those (isCut column order) (rowsFrom 0 (length order))
+
+-- a column's cuts
+unfoldable pub placesOf : ℕ → List Float → List ℕ
+placesOf rows column = cutsAlong column (orderOf rows column)
+
+-- "a count per column says how many"
+unfoldable pub countOf : ℕ → List Float → ℕ
+countOf rows column = length (placesOf rows column)
+
+-- "unused cut places become 0": that many places
+unfoldable pub padded : ℕ → List ℕ → List ℕ
+padded n places = places ++ replicate (n - length places) 0
+
+unfoldable pub cutsOf : ℕ → List Float → List ℕ
+cutsOf rows column = padded rows (placesOf rows column)
+
+-- ---- all columns, one after the other
+
+unfoldable pub joined : (ℕ → List ℕ) → ℕ → List ℕ
+joined f zero = []
+joined f (suc n) = joined f n ++ f n
+
+-- "Values, order and cuts have rows×columns entries exactly, counts have columns"
+unfoldable pub orderList : ℕ → ℕ → List Float → List ℕ
+orderList rows columns values = joined (λ c. orderOf rows (columnOf rows values c)) columns
+
+unfoldable pub cutList : ℕ → ℕ → List Float → List ℕ
+cutList rows columns values = joined (λ c. cutsOf rows (columnOf rows values c)) columns
+
+unfoldable pub countList : ℕ → ℕ → List Float → List ℕ
+countList rows columns values = joined (λ c. countOf rows (columnOf rows values c) ∷ []) columns
+
+-- ---- the answer
+
+-- reason 1, of rows and columns only: "Rows 1 to 4,096; columns 1 to 16"
+unfoldable pub inLimits : ℕ → ℕ → Bool
+inLimits rows columns = leb 1 rows && leb rows mostRows && leb 1 columns && leb columns mostColumns
+
+-- reason 3: "order and cuts have rows×columns entries exactly, counts have columns"
+unfoldable pub exactRoom : ℕ → ℕ → ℕ → ℕ → ℕ → Bool
+exactRoom cells columns orders cuts counts = eqb orders cells && eqb cuts cells && eqb counts columns
+
+-- reason 5: "first index", or the length if every value is within the limit
+unfoldable pub firstOutside : List Float → ℕ
+firstOutside values = walk (λ i. not (within (getD values i nan))) (length values) 0
+
+-- "The lowest number wins": the answer for a values list and lists of these lengths
+unfoldable pub answerOf : ℕ → ℕ → List Float → ℕ → ℕ → ℕ → Prepared
+answerOf rows columns values orders cuts counts =
+    pick (not (inLimits rows columns)) (Refused sizeOutside 0)
+    (pick (not (eqb (length values) (rows * columns))) (Refused lengthWrong 0)
+    (pick (not (exactRoom (rows * columns) columns orders cuts counts)) (Refused scratchShort 0)
+    (pick (ltb (firstOutside values) (length values)) (Refused valueOutside (firstOutside values))
+    Done)))
+
+-- document 01's number and place of an answer, if it turns back
+abbrev pub reasonOf : Prepared → Option (ℕ × ℕ)
+reasonOf Done = none
+reasonOf (Refused number place) = some (number, place)
+
+-- "A turned-back preparer writes nothing."
+abbrev pub leaves : Prepared → List ℕ → List ℕ → List ℕ
+leaves Done written before = written
+leaves (Refused number place) written before = before
+
+-- all that a call does: its answer, and every word of the three lent slices as it ends
+pub record PreparedOf (rows columns : ℕ) (values : List Float) (order cuts counts : List ℕ) (answer : Prepared)
+    (order′ cuts′ counts′ : List ℕ) : Type 0 where
+  pub answers : answer ≡ answerOf rows columns values (length order) (length cuts) (length counts)
+  pub orders : order′ ≡ leaves answer (orderList rows columns values) order
+  pub places : cuts′ ≡ leaves answer (cutList rows columns values) cuts
+  pub numbers : counts′ ≡ leaves answer (countList rows columns values) counts
