@@ -1,0 +1,31 @@
+-- `cuts::place_at` meets its contract: it reads the list where it may, and past the list the default is 0. Assumes nothing.
+use borrow.Author.Needs.{needs}
+use mathlib.Core.Path.{sym}
+use native.Mathlib.Omega.{arith}
+use Rattle.cuts.specs.Lookups.{place}
+use Rattle.cuts.proofs.Lookups.{getD-past}
+use Rattle.cuts.proofs.place_at.Statement.{statement}
+use Rattle.cuts.proofs.place_at.Tie as tie
+
+mul-wide : tie.Need-mul-wide
+mul-wide c = search needs
+
+shared-slice-read-wide : tie.Need-shared-slice-read-wide
+shared-slice-read-wide c = search needs
+
+wide-requires : tie.Need-wide-requires
+wide-requires c κs = search needs
+
+returns : tie.Need-returns
+unfolding place
+returns c = search needs
+
+returns-2 : tie.Need-returns-2
+unfolding place
+returns-2 c =
+    let a = c .before .before .args in
+    (sym (getD-past (a .cuts .now) (a .k) 0 (c .if1 .left)), omega arith)
+
+pub place-at-spec : {M : Type 1} → statement M
+place-at-spec =
+    tie.close (tie.spec mul-wide shared-slice-read-wide wide-requires returns returns-2)

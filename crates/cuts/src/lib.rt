@@ -1,0 +1,109 @@
+// Lookups in the list of one column's cuts.
+ghost use mathlib.Core.Path.{_≡_};
+ghost use Prim.Native.Nat.{_-_, _^_, _≤_, _<_, max};
+ghost use lib.ListN.{length};
+ghost use Rattle.basics.specs.Walk.{walk};
+ghost use Rattle.cuts.specs.Lookups.{place, Ascending, above, endOf, lowerBoundOf, upperBoundOf};
+ghost use Rattle.cuts.specs.Feasible.{feasibleOf};
+
+// A run of cut numbers, from `first` up to and without `end`; none where the two are equal.
+pub struct Run {
+    pub first: usize,
+    pub end: usize,
+}
+
+fn wide(place: u16) -> usize
+    ensures { λ r. ⌜ r ≡ place ⌝ }
+    ensures fits { λ r. ⌜ r < 2 ^ 16 ⌝ }
+{
+    place as usize
+}
+
+// Where cut number k stands; 0 for a number past the list.
+pub fn place_at(cuts: &[u16], k: usize) -> usize
+    ensures { λ r. ⌜ r ≡ place (now (cuts .entry)) k ⌝ }
+    ensures fits { λ r. ⌜ r < 2 ^ 16 ⌝ }
+{
+    if k < cuts.len() { wide(cuts[k]) } else { 0 }
+}
+
+// The first cut of those from `low` up to and without `high` that is placed above `value`, `high` if none is: by halving.
+fn first_above(cuts: &[u16], low: usize, high: usize, value: usize) -> usize
+    requires { ⌜ high ≤ length (now cuts) ⌝ }
+    ensures inside { λ r. ⌜ (low ≤ r) × (r ≤ max low high) ⌝ }
+    ensures found { λ r. ⌜ (Ascending (now (cuts .entry)) → r ≡ walk (above (now (cuts .entry)) value) (high - low) low) ⌝ }
+{
+    let mut from = low;
+    let mut to = high;
+    while from < to {
+        let middle = from + (to - from) / 2;
+        if value < wide(cuts[middle]) {
+            to = middle;
+        } else {
+            from = middle + 1;
+        }
+    }
+    from
+}
+
+// One past the last cut to look at. An end that is not above the first cut lets the lookup run to the list's end.
+fn end_of(cuts: &[u16], first: usize, last: usize) -> usize
+    ensures { λ r. ⌜ r ≡ endOf (now (cuts .entry)) first last ⌝ }
+{
+    let count = cuts.len();
+    if last <= first {
+        return count;
+    }
+    if last < count { last + 1 } else { count }
+}
+
+// The first cut from `first` to `last` that is placed at `value` or above, or one past the end if none is.
+pub fn lower_bound(cuts: &[u16], first: usize, last: usize, value: usize) -> usize
+    ensures inside { λ r. ⌜ (first ≤ r) × (r ≤ max first (endOf (now (cuts .entry)) first last)) ⌝ }
+    ensures found { λ r. ⌜ (Ascending (now (cuts .entry)) → r ≡ lowerBoundOf (now (cuts .entry)) first last value) ⌝ }
+{
+    // Every cut is placed at 0 or above, and what is placed at a higher value or above is placed above the number before it.
+    if value == 0 {
+        return first;
+    }
+    let below = value - 1;
+    let end = end_of(cuts, first, last);
+    first_above(cuts, first, end, below)
+}
+
+// The first cut from `first` to `last` that is placed above `value`, or one past the end if none is.
+pub fn upper_bound(cuts: &[u16], first: usize, last: usize, value: usize) -> usize
+    ensures inside { λ r. ⌜ (first ≤ r) × (r ≤ max first (endOf (now (cuts .entry)) first last)) ⌝ }
+    ensures found { λ r. ⌜ (Ascending (now (cuts .entry)) → r ≡ upperBoundOf (now (cuts .entry)) first last value) ⌝ }
+{
+    let end = end_of(cuts, first, last);
+    first_above(cuts, first, end, value)
+}
+
+// The fewest rows that a side may hold.
+fn fewest(support: usize) -> usize
+    ensures { λ r. ⌜ r ≡ max support 1 ⌝ }
+{
+    if support < 1 { 1 } else { support }
+}
+
+// The cuts that leave at least `support` rows, and at least one, on each side.
+pub fn support_feasible_splits(cuts: &[u16], rows: usize, support: usize) -> Run
+    ensures inside { λ r. ⌜ (r .first ≤ r .end) × (r .end ≤ length (now (cuts .entry))) ⌝ }
+    ensures found { λ r. ⌜ (Ascending (now (cuts .entry)) → r ≡ feasibleOf (now (cuts .entry)) rows support) ⌝ }
+{
+    let least = fewest(support);
+    // Half of the rows is compared, since twice the support might not fit.
+    if rows / 2 < least {
+        return Run { first: 0, end: 0 };
+    }
+    let short = least - 1;
+    let most = rows - least;
+    let count = cuts.len();
+    let first = first_above(cuts, 0, count, short);
+    let end = first_above(cuts, 0, count, most);
+    if end < first {
+        return Run { first, end: first };
+    }
+    Run { first, end }
+}
