@@ -1,0 +1,27 @@
+-- `interval_pruner::at` meets its contract: past the table the default is 0. Assumes nothing.
+use borrow.Author.Needs.{needs}
+use mathlib.Core.Path.{sym}
+use native.Mathlib.Omega.{arith}
+use Rattle.cuts.proofs.Lookups.{getD-past}
+use Rattle.interval_pruner.proofs.at.Statement.{statement}
+use Rattle.interval_pruner.proofs.at.Tie as tie
+
+mul-wide : tie.Need-mul-wide
+mul-wide c = search needs
+
+shared-slice-read-wide : tie.Need-shared-slice-read-wide
+shared-slice-read-wide c = search needs
+
+wide-requires : tie.Need-wide-requires
+wide-requires c κs = search needs
+
+returns : tie.Need-returns
+returns c = search needs
+
+returns-2 : tie.Need-returns-2
+returns-2 c =
+    let a = c .before .before .args in
+    (sym (getD-past (a .table .now) (a .i) 0 (c .if1 .left)), omega arith)
+
+pub at-spec : {M : Type 1} → statement M
+at-spec = tie.close (tie.spec mul-wide shared-slice-read-wide wide-requires returns returns-2)
