@@ -1,0 +1,3 @@
+-- Laws of the ring.
+pub mod Cases
+pub mod Waiting

@@ -1,0 +1,38 @@
+-- `interval_queue::cut` meets its contract. Assumes nothing.
+use mathlib.Core.Path.{_≡_, refl, sym, ap, _∙_}
+use Prim.Native.Nat.{ℕ, zero, suc, _-_, _<_}
+use native.Mathlib.Omega.{arith}
+use Rattle.interval_pruner.specs.declared.Tried.{Tried}
+use Rattle.interval_pruner.specs.declared.Tried.the-variants.{Nothing, Cut}
+use Rattle.interval_queue.specs.Ring.{cutOf}
+use borrow.Author.Needs.{needs}
+use Rattle.interval_queue.proofs.cut.Statement.{statement}
+use Rattle.interval_queue.proofs.cut.Tie as tie
+
+none-of : (w : ℕ) → w ≡ 0 → Nothing ≡ cutOf w
+unfolding cutOf
+none-of zero e = refl
+none-of (suc k) e = absurd (omega arith)
+
+cut-of : (w : ℕ) → 0 < w → Cut (w - 1) ≡ cutOf w
+unfolding cutOf
+cut-of zero h = absurd (omega arith)
+cut-of (suc k) h = ap Cut (back k)
+  where
+    back : (k : ℕ) → suc k - 1 ≡ k
+    back k = omega arith
+
+wide-requires : tie.Need-wide-requires
+wide-requires c κs = search needs
+
+sub-t5 : tie.Need-sub-t5
+sub-t5 c = search needs
+
+returns : tie.Need-returns
+returns c = none-of (c .before .args .word) (omega arith)
+
+returns-2 : tie.Need-returns-2
+returns-2 c = ap (λ (n : ℕ). Cut (n - 1)) (c .wide .ensures) ∙ cut-of (c .before .before .args .word) (omega arith)
+
+pub cut-spec : {M : Type 1} → statement M
+cut-spec = tie.close (tie.spec wide-requires sub-t5 returns returns-2)

@@ -1,0 +1,161 @@
+// The intervals that wait, first in first out: a ring in lent words, four words an interval (the original's `VecDeque`).
+use interval_pruner::Bound;
+use interval_pruner::Tried;
+ghost use mathlib.Core.Path.{_≡_};
+ghost use Prim.Native.Nat.{_+_, _*_, _/_, _<_, _≤_};
+ghost use lib.ListN.{length};
+ghost use Rattle.interval_queue.specs.Ring.{slotOf, wordOf, markOf, cutOf, stored, loaded, pushedWords, pushed, popped, emptyBound};
+
+// Where the first interval stands, and how many wait.
+pub struct Queue {
+    pub head: usize,
+    pub waiting: usize,
+}
+
+// The first interval, and the queue without it.
+pub struct Popped {
+    pub bound: Bound,
+    pub queue: Queue,
+}
+
+const WORDS: usize = 4;
+
+const LARGEST_WORD: usize = 0xffff_ffff;
+
+// The ring's slot k places after the head.
+fn slot(head: usize, k: usize, slots: usize) -> usize
+    requires { ⌜ (head < slots) × (k ≤ slots) × (slots ≤ 0xffff_ffff_ffff_ffff / 4) ⌝ }
+    ensures { λ r. ⌜ (r ≡ slotOf head k slots) × (r < slots) ⌝ }
+{
+    let at = head + k;
+    if at < slots { at } else { at - slots }
+}
+
+fn wide(x: u32) -> usize
+    ensures { λ r. ⌜ r ≡ x ⌝ }
+{
+    x as usize
+}
+
+// A number as a word. Cut numbers are far below the largest word.
+fn word(n: usize) -> u32
+    ensures { λ r. ⌜ r ≡ wordOf n ⌝ }
+{
+    if n < LARGEST_WORD {
+        n as u32
+    } else {
+        0xffff_ffff
+    }
+}
+
+// A remembered cut as a word: 0 for none, else one more than its number.
+fn mark(tried: Tried) -> u32
+    ensures { λ r. ⌜ r ≡ markOf tried ⌝ }
+{
+    match tried {
+        Tried::Nothing => 0,
+        Tried::Cut(k) => {
+            if k < LARGEST_WORD {
+                word(k + 1)
+            } else {
+                0xffff_ffff
+            }
+        }
+    }
+}
+
+fn cut(word: u32) -> Tried
+    ensures { λ r. ⌜ r ≡ cutOf word ⌝ }
+{
+    if word == 0 {
+        Tried::Nothing
+    } else {
+        Tried::Cut(wide(word) - 1)
+    }
+}
+
+fn store(words: &mut [u32], at: usize, bound: Bound)
+    requires { ⌜ at + 4 ≤ length (now words) ⌝ }
+    ensures { λ _. ⌜ now (words .exit) ≡ stored (now (words .entry)) at bound ⌝ }
+{
+    let left = bound.left;
+    let right = bound.right;
+    words[at] = word(bound.first);
+    words[at + 1] = word(bound.last);
+    words[at + 2] = mark(left);
+    words[at + 3] = mark(right);
+}
+
+fn load(words: &[u32], at: usize) -> Bound
+    requires { ⌜ at + 4 ≤ length (now words) ⌝ }
+    ensures { λ r. ⌜ r ≡ loaded (now (words .entry)) at ⌝ }
+{
+    let left = cut(words[at + 2]);
+    let right = cut(words[at + 3]);
+    Bound {
+        first: wide(words[at]),
+        last: wide(words[at + 1]),
+        left,
+        right,
+    }
+}
+
+// One interval more at the end; a full ring stays as it is.
+pub fn push(words: &mut [u32], queue: Queue, bound: Bound) -> Queue
+    ensures { λ r. ⌜ r ≡ pushed (now (words .entry)) queue ⌝ }
+    ensures { λ _. ⌜ now (words .exit) ≡ pushedWords (now (words .entry)) queue bound ⌝ }
+{
+    let slots = words.len() / WORDS;
+    let head = queue.head;
+    let waiting = queue.waiting;
+    if slots <= head {
+        return queue;
+    }
+    if slots <= waiting {
+        return queue;
+    }
+    let at = slot(head, waiting, slots) * WORDS;
+    store(words, at, bound);
+    Queue {
+        head,
+        waiting: waiting + 1,
+    }
+}
+
+// The first interval off the queue. Where none waits it is an empty interval, and the queue stays as it is.
+pub fn pop(words: &[u32], queue: Queue) -> Popped
+    ensures { λ r. ⌜ r ≡ popped (now (words .entry)) queue ⌝ }
+{
+    let slots = words.len() / WORDS;
+    let head = queue.head;
+    let waiting = queue.waiting;
+    if slots <= head {
+        return none(queue);
+    }
+    if waiting == 0 {
+        return none(queue);
+    }
+    let bound = load(words, head * WORDS);
+    let next = slot(head, 1, slots);
+    Popped {
+        bound,
+        queue: Queue {
+            head: next,
+            waiting: waiting - 1,
+        },
+    }
+}
+
+fn none(queue: Queue) -> Popped
+    ensures { λ r. ⌜ r ≡ record { bound = emptyBound; queue = queue } ⌝ }
+{
+    Popped {
+        bound: Bound {
+            first: 1,
+            last: 0,
+            left: Tried::Nothing,
+            right: Tried::Nothing,
+        },
+        queue,
+    }
+}
