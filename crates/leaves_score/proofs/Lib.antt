@@ -1,0 +1,13 @@
+pub mod Commonest
+pub mod Counts
+pub mod Live
+pub mod Recorded
+pub mod Running
+pub mod Judged
+pub mod Steps
+pub mod Kept
+pub mod Column
+pub mod Rows
+pub mod Leaf
+pub mod Columns
+pub mod Accepted

@@ -1,0 +1,159 @@
+-- `leaves_score::scan_columns` meets its contract: the loop keeps `Scanning` (`Columns.antt`). Assumes nothing.
+use Prim.Native.Nat.{ℕ, _+_, _-_, _<_}
+use mathlib.Core.Path.{_≡_, refl, sym, ap, subst, _∙_}
+use mathlib.Core.Bool.{Bool}
+use mathlib.Core.List.{List}
+use native.Mathlib.Omega.{arith}
+use borrow.Author.Needs.{needs}
+use lib.ListN.{getD}
+use lib.Ieee.{Float}
+use Rattle.sheet.specs.Sheet.{Sheet, labelOf, leastRows}
+use Rattle.leaves_score.specs.declared.SideScan.{SideScan}
+use Rattle.leaves_score.specs.declared.Two.{Two}
+use Rattle.sheet.specs.declared.Size.{Size}
+use Rattle.leaves_score.specs.declared.Parted.{Parted}
+use Rattle.leaves_score.specs.Scan.{other, sizeOf, labelled, ownOf, startOf, startBoth, scanColumn, perfect}
+use Rattle.leaves_score.specs.Step.{leafScan}
+use Rattle.leaves_score.specs.Lists.{sheetOf, goLeft, rowsOnly, partedOf, ReadyColumn, ReadyRows, Scannable}
+use Rattle.leaves_score.proofs.Columns.{Scanning, begins, finished, stops, goes-on, ready-column}
+use Rattle.leaves_score.proofs.scan_columns.Statement.{statement}
+use Rattle.leaves_score.proofs.scan_columns.Tie as tie
+
+-- ---- the two sides at the start
+
+one : (size : Size) (values : List Float) (codes order : List ℕ) (support : ℕ) (mine : ℕ → Bool)
+    → leafScan (ownOf (rowsOnly (size .rows) codes) mine) (sizeOf (rowsOnly (size .rows) codes) mine) (size .labels) (leastRows support)
+    ≡ startOf (sheetOf size values codes order) support mine
+unfolding leafScan startOf ownOf labelled labelOf sizeOf
+one size values codes order support mine = refl
+
+begun : (size : Size) (values : List Float) (codes order marks : List ℕ) (support : ℕ) (p : Parted) (least : ℕ) (l r : SideScan)
+    → p ≡ partedOf (size .rows) codes marks → least ≡ leastRows support → l ≡ leafScan (p .own) (p .size) (size .labels) least
+    → r ≡ leafScan (p .other) (p .rest) (size .labels) least
+    → record { left = l; right = r } ≡ startBoth (sheetOf size values codes order) support (goLeft marks)
+unfolding startBoth partedOf
+begun size values codes order marks support p least l r ep en el er =
+    let s = sheetOf size values codes order in
+    let labels = size .labels in
+    let left : l ≡ startOf s support (goLeft marks) =
+    el ∙ ap (λ (p : Parted). leafScan (p .own) (p .size) labels least) ep
+    ∙ ap (λ (n : ℕ). leafScan (partedOf (size .rows) codes marks .own) (partedOf (size .rows) codes marks .size) labels n) en ∙ one size values codes order support (goLeft marks) in
+    let right : r ≡ startOf s support (other (goLeft marks)) =
+    er ∙ ap (λ (p : Parted). leafScan (p .other) (p .rest) labels least) ep
+    ∙ ap (λ (n : ℕ). leafScan (partedOf (size .rows) codes marks .other) (partedOf (size .rows) codes marks .rest) labels n) en
+    ∙ one size values codes order support (other (goLeft marks)) in
+    ap (λ (t : SideScan). record { left = t; right = r }) left ∙ ap (λ (t : SideScan). record { left = startOf s support (goLeft marks); right = t }) right
+
+rows-ready : (s : Sheet) (marks : List ℕ) → Scannable s marks → ReadyRows (s .rows) (s .codes) marks
+rows-ready s marks h =
+    record {
+      few = h .limited .rows-most;
+      coded = h .lent .coded;
+      marked = h .lent .marked;
+      labelled = λ r k. omega (arith, unlabelled r k, h .limited .labels-most);
+    }
+  where
+    unlabelled : (r : ℕ) → r < s .rows → getD (s .codes) r 0 < s .labels
+    unlabelled r k = unfold labelOf in h .labelled r k
+
+abbrev Inv-loop : tie.InvT-loop
+Inv-loop size support values codes order marks least both₀ column₀ both column = Scanning (sheetOf size values codes order) support marks column both
+
+abbrev μ-loop : tie.MeasureT-loop
+μ-loop size support values codes order marks least both₀ column₀ both column = size .columns - column
+
+part-rows-requires : tie.Need-part-rows-requires Inv-loop μ-loop
+part-rows-requires c κs = rows-ready _ _ (c .before .before .before .before .pre)
+
+least-rows-requires : tie.Need-least-rows-requires Inv-loop μ-loop
+least-rows-requires c κs = search needs
+
+begin-requires : tie.Need-begin-requires Inv-loop μ-loop
+begin-requires c κs = search needs
+
+begin-requires-2 : tie.Need-begin-requires-2 Inv-loop μ-loop
+begin-requires-2 c κs = search needs
+
+loop-holds : tie.Need-loop-holds Inv-loop μ-loop
+loop-holds c =
+    let p = c .before .before .before .before .before in
+    let a = p .before .before .before .before .before .args in
+    let n = c .before .before .before .before in
+    begins (sheetOf (a .size) (a .values .now) (a .codes .now) (a .order .now)) (a .support) (a .marks .now) (record { left = c .before .begin .result; right = c .begin2 .result })
+    (begun (a .size) (a .values .now) (a .codes .now) (a .order .now) (a .marks .now) (a .support) (p .part-rows .result) (n .least-rows .result) (c .before .begin .result) (c .begin2 .result)
+    (p .part-rows .ensures) (n .least-rows .ensures) (c .before .begin .ensures) (c .begin2 .ensures))
+
+-- at a column
+module _ (c : tie.Then1 Inv-loop μ-loop) where
+  abbrev head : tie.At-loop Inv-loop μ-loop
+  head = c .before .before
+
+  abbrev start : tie.Start Inv-loop μ-loop
+  start = head .before .before .before .before .before .before .before .before .before .before .before
+
+  abbrev sheet : Sheet
+  sheet = sheetOf (start .args .size) (start .args .values .now) (start .args .codes .now) (start .args .order .now)
+
+  ready : ReadyColumn sheet (start .args .marks .now) (head .loop .column) (head .loop .both)
+  ready = ready-column sheet (start .args .support) (start .args .marks .now) (head .loop .column) (head .loop .both) (head .loop .inv) (c .if1 .taken) (start .pre)
+
+module _ (c : tie.After-is-perfect Inv-loop μ-loop) where
+  abbrev at : tie.Then1 Inv-loop μ-loop
+  at = c .before .before
+
+  abbrev next : Two
+  next = scanColumn (sheet at) (goLeft (start at .args .marks .now)) (head at .loop .column) (head at .loop .both)
+
+  tested : c .is-perfect .result ≡ perfect next
+  tested = c .is-perfect .ensures ∙ ap perfect (c .before .scan-column .ensures)
+
+scan-column-requires : tie.Need-scan-column-requires Inv-loop μ-loop
+scan-column-requires c κs = ready c
+
+add-column : tie.Need-add-column Inv-loop μ-loop
+add-column c = search needs
+
+is-perfect-requires : tie.Need-is-perfect-requires Inv-loop μ-loop
+is-perfect-requires c κs = search needs
+
+loop-less : tie.Need-loop-less Inv-loop μ-loop
+loop-less c = search needs
+
+loop-again : tie.Need-loop-again Inv-loop μ-loop
+loop-again c =
+    let d = c .before in
+    let a = start (at d) .args in
+    subst (λ (b : Two). Scanning (sheet (at d)) (a .support) (a .marks .now) (head (at d) .loop .column + 1) b) (sym (d .before .scan-column .ensures))
+    (goes-on (sheet (at d)) (a .support) (a .marks .now) (head (at d) .loop .column) (head (at d) .loop .both) (head (at d) .loop .inv) (at d .if1 .taken) (sym (tested d) ∙ c .if2 .left))
+
+returns : tie.Need-returns Inv-loop μ-loop
+returns c =
+    let h = c .before .before in
+    let a = h .before .before .before .before .before .before .before .before .before .before .before .args in
+    finished (sheetOf (a .size) (a .values .now) (a .codes .now) (a .order .now)) (a .support) (a .marks .now) (h .loop .column) (h .loop .both) (h .loop .inv) (c .if1 .left)
+
+returns-2 : tie.Need-returns-2 Inv-loop μ-loop
+returns-2 c =
+    let d = c .before in
+    let a = start (at d) .args in
+    d .before .scan-column .ensures
+    ∙ stops (sheet (at d)) (a .support) (a .marks .now) (head (at d) .loop .column) (head (at d) .loop .both) (head (at d) .loop .inv) (at d .if1 .taken) (sym (tested d) ∙ c .if2 .taken)
+
+pub scan-columns-spec : {M : Type 1} → statement M
+scan-columns-spec =
+    tie.close
+    (tie.spec
+    Inv-loop
+    μ-loop
+    part-rows-requires
+    least-rows-requires
+    begin-requires
+    begin-requires-2
+    loop-holds
+    scan-column-requires
+    add-column
+    is-perfect-requires
+    loop-less
+    loop-again
+    returns
+    returns-2)
