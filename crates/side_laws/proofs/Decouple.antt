@@ -1,0 +1,167 @@
+-- The two sides do not need each other: the coupled scan, with its early ends and its stop, answers what each side's own scan does, because it ends
+-- only where neither side's answer can change. At every support. Assumes nothing.
+use mathlib.Core.Path.{_≡_, refl, sym, ap, _∙_, subst}
+use Prim.Native.Nat.{ℕ, zero, suc, _+_, _≤_, _<_}
+use native.Mathlib.Omega.{arith}
+use mathlib.Core.Bool.{Bool, not, _&&_, _||_}
+use mathlib.Core.List.{List, _∷_}
+use lib.Dec.{T, eqb, eqb→eq}
+use Rattle.basics.specs.Lists.{those}
+use Rattle.basics.proofs.Choice.{by-test, either, and-left, and-right}
+use Rattle.sheet.specs.Sheet.{Sheet, rowAt, orderOf}
+use Rattle.sheet.specs.Sound.{Sound}
+use Rattle.leaves_score.specs.declared.SideScan.{SideScan}
+use Rattle.leaves_score.specs.declared.Two.{Two}
+use Rattle.leaves_score.specs.Scan.{other, startOf, cleared, stepBoth, idle, ended, scanRows, scanColumn, perfect, scanColumns, leafLabel, leafScore, sideOf, startBoth, scanned, sidesOf}
+use Rattle.leaves_score.specs.Kept.{rowsFrom, Owns, Live}
+use Rattle.leaves_score.proofs.Live.{left-is, right-is, live-left, live-right, owns-start, owns-cleared, rows-order, start-live}
+use Rattle.side_laws.specs.Alone.{through, columnAlone, columnsAlone, alone, sideAlone, Decoupled, Decouples}
+use Rattle.side_laws.proofs.Tests.{or-left, or-right}
+use Rattle.side_laws.proofs.Single.{stays, perfected, runs-at, owns-through}
+
+-- what crosses to the next column is the same
+abbrev Alike : SideScan → SideScan → Type 0
+Alike a b = cleared a ≡ cleared b
+
+twice : (t : SideScan) → cleared (cleared t) ≡ cleared t
+unfolding cleared
+twice t = refl
+
+-- ---- the rows of a column
+
+ended-left : (b : Two) → T (ended b) → T (b .left .closed || idle (b .left))
+unfolding ended
+ended-left b e =
+    either (b .left .closed && b .right .closed) (idle (b .left) && idle (b .right)) e
+    (λ y. or-left (b .left .closed) _ (and-left (b .left .closed) _ y))
+    (λ y. or-right (b .left .closed) _ (and-left (idle (b .left)) _ y))
+
+ended-right : (b : Two) → T (ended b) → T (b .right .closed || idle (b .right))
+unfolding ended
+ended-right b e =
+    either (b .left .closed && b .right .closed) (idle (b .left) && idle (b .right)) e
+    (λ y. or-left (b .right .closed) _ (and-right (b .left .closed) _ y))
+    (λ y. or-right (b .right .closed) _ (and-right (idle (b .left)) _ y))
+
+module _ (s : Sheet) (mark : ℕ → Bool) (c : ℕ) where
+  runs-left : (r : ℕ) (rs : List ℕ) (b : Two) → through s c (those mark (r ∷ rs)) (b .left) ≡ through s c (those mark rs) ((stepBoth s mark c r b) .left)
+  runs-left r rs b = runs-at s c r (mark r) (those mark rs) (b .left) ∙ ap (through s c (those mark rs)) (sym (left-is s mark c r b))
+
+  runs-right : (r : ℕ) (rs : List ℕ) (b : Two)
+      → through s c (those (other mark) (r ∷ rs)) (b .right) ≡ through s c (those (other mark) rs) ((stepBoth s mark c r b) .right)
+  runs-right r rs b = runs-at s c r (other mark r) (those (other mark) rs) (b .right) ∙ ap (through s c (those (other mark) rs)) (sym (right-is s mark c r b))
+
+  pub both-rows : (n i : ℕ) (b : Two) → Live s (those mark (rowsFrom s c n i)) (b .left) → Live s (those (other mark) (rowsFrom s c n i)) (b .right)
+      → Alike ((scanRows s mark c n i b) .left) (through s c (those mark (rowsFrom s c n i)) (b .left))
+      × Alike ((scanRows s mark c n i b) .right) (through s c (those (other mark) (rowsFrom s c n i)) (b .right))
+  unfolding scanRows rowsFrom through
+  both-rows zero i b hl hr = (refl, refl)
+  both-rows (suc n) i b hl hr =
+      let r : ℕ = rowAt s c i in
+      let rs : List ℕ = rowsFrom s c n (suc i) in
+      let next : Two = stepBoth s mark c r b in
+      let kl : Live s (those mark rs) (next .left) = live-left s mark c r b rs hl in
+      let kr : Live s (those (other mark) rs) (next .right) = live-right s mark c r b rs hr in
+      let z = by-test
+      (λ z. Alike (z .left) (through s c (those mark rs) (next .left)) × Alike (z .right) (through s c (those (other mark) rs) (next .right)))
+      (ended next) {x = next} {y = scanRows s mark c n (suc i) next}
+      (λ e. (
+        sym (stays s c (those mark rs) (next .left) kl (ended-left next e)),
+        sym (stays s c (those (other mark) rs) (next .right) kr (ended-right next e)),
+      ))
+      (λ _. both-rows n (suc i) next kl kr) in
+      (z .0 ∙ sym (ap cleared (runs-left r rs b)), z .1 ∙ sym (ap cleared (runs-right r rs b)))
+
+-- ---- the columns
+
+module _ (s : Sheet) (sound : Sound s) (support : ℕ) where
+  pub owns-column : (mine : ℕ → Bool) (c : ℕ) (t : SideScan) → Owns s support mine t → Owns s support mine (columnAlone s mine c t)
+  unfolding columnAlone
+  owns-column mine c t h = owns-through s c support mine (those mine (orderOf s c)) (cleared t) (owns-cleared s support mine t h)
+
+  pub owns-columns : (mine : ℕ → Bool) (n c : ℕ) (t : SideScan) → Owns s support mine t → Owns s support mine (columnsAlone s mine n c t)
+  unfolding columnsAlone
+  owns-columns mine zero c t h = h
+  owns-columns mine (suc n) c t h = owns-columns mine n (suc c) (columnAlone s mine c t) (owns-column mine c t h)
+
+  pub column-perfect : (mine : ℕ → Bool) (c : ℕ) (t : SideScan) → c < s .columns → Owns s support mine t → t .best .score ≡ t .size
+      → cleared (columnAlone s mine c t) ≡ cleared t
+  unfolding columnAlone
+  column-perfect mine c t h o e =
+      perfected s c (those mine (orderOf s c)) (cleared t) (start-live s sound support mine t o c h) (unfold cleared in e) ∙ twice t
+
+  -- the next column starts from what crosses
+  column-alike : (mine : ℕ → Bool) (c : ℕ) (a b : SideScan) → Alike a b → columnAlone s mine c a ≡ columnAlone s mine c b
+  unfolding columnAlone
+  column-alike mine c a b e = ap (through s c (those mine (orderOf s c))) e
+
+  columns-alike : (mine : ℕ → Bool) (n c : ℕ) (a b : SideScan) → Alike a b → Alike (columnsAlone s mine n c a) (columnsAlone s mine n c b)
+  unfolding columnsAlone
+  columns-alike mine zero c a b e = e
+  columns-alike mine (suc n) c a b e = ap (λ t. cleared (columnsAlone s mine n (suc c) t)) (column-alike mine c a b e)
+
+  score-alike : (a b : SideScan) → Alike a b → b .best .score ≡ b .size → a .best .score ≡ a .size
+  unfolding cleared
+  score-alike a b e h = ap (λ (t : SideScan). t .best .score) e ∙ h ∙ sym (ap (λ (t : SideScan). t .size) e)
+
+  pub columns-perfect : (mine : ℕ → Bool) (n c : ℕ) (t : SideScan) → c + n ≤ s .columns → Owns s support mine t → t .best .score ≡ t .size
+      → Alike (columnsAlone s mine n c t) t
+  unfolding columnsAlone
+  columns-perfect mine zero c t h o e = refl
+  columns-perfect mine (suc n) c t h o e =
+      let k : Alike (columnAlone s mine c t) t = column-perfect mine c t (omega arith) o e in
+      columns-perfect mine n (suc c) (columnAlone s mine c t) (omega arith) (owns-column mine c t o) (score-alike (columnAlone s mine c t) t k e) ∙ k
+
+  module _ (mark : ℕ → Bool) where
+    both-column : (c : ℕ) → c < s .columns → (b : Two) → Owns s support mark (b .left) → Owns s support (other mark) (b .right)
+        → Alike ((scanColumn s mark c b) .left) (columnAlone s mark c (b .left))
+        × Alike ((scanColumn s mark c b) .right) (columnAlone s (other mark) c (b .right))
+    unfolding scanColumn columnAlone
+    both-column c h b ol or =
+        let start : Two = record { left = cleared (b .left); right = cleared (b .right) } in
+        subst
+        (λ xs. Alike ((scanRows s mark c (s .rows) 0 start) .left) (through s c (those mark xs) (cleared (b .left)))
+        × Alike ((scanRows s mark c (s .rows) 0 start) .right) (through s c (those (other mark) xs) (cleared (b .right))))
+        (rows-order s c)
+        (both-rows s mark c (s .rows) 0 start
+        (subst (λ xs. Live s (those mark xs) (cleared (b .left))) (sym (rows-order s c)) (start-live s sound support mark (b .left) ol c h))
+        (subst (λ xs. Live s (those (other mark) xs) (cleared (b .right))) (sym (rows-order s c)) (start-live s sound support (other mark) (b .right) or c h)))
+
+    both-columns : (n c : ℕ) → c + n ≤ s .columns → (b : Two) (x y : SideScan) → Alike (b .left) x → Alike (b .right) y
+        → Owns s support mark x → Owns s support (other mark) y
+        → Alike ((scanColumns s mark n c b) .left) (columnsAlone s mark n c x) × Alike ((scanColumns s mark n c b) .right) (columnsAlone s (other mark) n c y)
+    unfolding scanColumns columnsAlone perfect
+    both-columns zero c h b x y ex ey ox oy = (ex, ey)
+    both-columns (suc n) c h b x y ex ey ox oy =
+        let a : Two = scanColumn s mark c b in
+        let u : SideScan = columnAlone s mark c x in
+        let v : SideScan = columnAlone s (other mark) c y in
+        let k = both-column c (omega arith) b (owns-alike mark (b .left) x ex ox) (owns-alike (other mark) (b .right) y ey oy) in
+        let el : Alike (a .left) u = k .0 ∙ ap cleared (column-alike mark c (b .left) x ex) in
+        let er : Alike (a .right) v = k .1 ∙ ap cleared (column-alike (other mark) c (b .right) y ey) in
+        let ou : Owns s support mark u = owns-column mark c x ox in
+        let ov : Owns s support (other mark) v = owns-column (other mark) c y oy in
+        by-test (λ z. Alike (z .left) (columnsAlone s mark n (suc c) u) × Alike (z .right) (columnsAlone s (other mark) n (suc c) v))
+        (eqb (a .left .best .score) (a .left .size) && eqb (a .right .best .score) (a .right .size)) {x = a} {y = scanColumns s mark n (suc c) a}
+        (λ e. (
+          el ∙ sym (columns-perfect mark n (suc c) u (omega arith) ou (score-alike u (a .left) (sym el) (eqb→eq _ _ (and-left (eqb (a .left .best .score) (a .left .size)) _ e)))),
+          er ∙ sym (columns-perfect (other mark) n (suc c) v (omega arith) ov (score-alike v (a .right) (sym er) (eqb→eq _ _ (and-right (eqb (a .left .best .score) (a .left .size)) _ e)))),
+        ))
+        (λ _. both-columns n (suc c) (omega arith) a u v el er ou ov)
+      where
+        owns-alike : (mine : ℕ → Bool) (a b : SideScan) → Alike a b → Owns s support mine b → Owns s support mine a
+        owns-alike mine a b e o = unfold cleared in subst (Owns s support mine) (sym e) o
+
+    side-alike : (a b : SideScan) → Alike a b → sideOf a ≡ sideOf b
+    unfolding sideOf cleared leafLabel leafScore
+    side-alike a b e = ap sideOf e
+
+    pub decoupled-sides : Decoupled s support mark
+    unfolding sidesOf scanned sideAlone alone startBoth
+    decoupled-sides =
+        let k = both-columns (s .columns) 0 (omega arith) (record { left = startOf s support mark; right = startOf s support (other mark) })
+        (startOf s support mark) (startOf s support (other mark)) refl refl (owns-start s support mark) (owns-start s support (other mark)) in
+        record { left = side-alike _ _ (k .0); right = side-alike _ _ (k .1) }
+
+pub decouples : Decouples
+decouples s sound support mark = decoupled-sides s sound support mark

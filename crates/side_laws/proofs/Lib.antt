@@ -1,0 +1,20 @@
+-- Laws of the scan, proved; `specs/` states them.
+pub mod Tests
+pub mod Single
+pub mod Decouple
+pub mod Sums
+pub mod Fair
+pub mod Tallies
+pub mod Past
+pub mod Told
+pub mod Sides
+pub mod Best
+pub mod Every
+pub mod First
+pub mod Mistakes
+pub mod Columns
+pub mod Optimal
+pub mod Cuts
+pub mod Metric
+pub mod Root
+pub mod Same

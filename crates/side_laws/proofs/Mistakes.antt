@@ -1,0 +1,93 @@
+-- The mistakes of a leaf or a question are those of its leaves; so a side that tells what is so makes its error's mistakes. More rows make no fewer
+-- mistakes, and no more than one more each. Assumes nothing.
+use mathlib.Core.Path.{_≡_, refl, sym, _∙_}
+use Prim.Native.Nat.{ℕ, _+_, _≤_, _<_}
+use native.Mathlib.Omega.{arith}
+use mathlib.Core.Bool.{Bool, true, false, not, _&&_}
+use lib.Dec.{eqb}
+use lib.Ieee.{Float}
+use Rattle.basics.specs.Choice.{pick, bit}
+use Rattle.basics.proofs.Lists.{tally-parts}
+use Rattle.threshold.specs.Threshold.{goesLeft}
+use Rattle.threshold.proofs.Law.{measured-comparable}
+use Rattle.sheet.specs.Sheet.{Sheet, valueOf, labelOf, everyRow}
+use Rattle.tree.specs.Answer.{sideError}
+use Rattle.tree.specs.declared.Side.{Side}
+use Rattle.tree.specs.declared.Side.the-variants.{Leaf, Split}
+use Rattle.leaves_score.specs.Scan.{other, sizeOf, sidesOf}
+use Rattle.side_laws.specs.Told.{leftPart, rightPart, wrongOf, Told}
+use Rattle.side_laws.specs.Opt.{answer, mistakes, Proper, Grows, Mistaken}
+use Rattle.side_laws.proofs.Tallies.{rows-shift}
+use Rattle.side_laws.proofs.Sides.{tells}
+
+-- ---- by parts
+
+split-bit : (o m : Bool) (l a b : ℕ) → bit (o && not (eqb l (pick m a b))) ≡ bit ((o && m) && not (eqb l a)) + bit ((o && not m) && not (eqb l b))
+unfolding pick
+split-bit true true l a b = omega arith
+split-bit true false l a b = omega arith
+split-bit false m l a b = omega arith
+
+module _ (s : Sheet) (mine : ℕ → Bool) where
+  pub leaf-mistakes : (l e : ℕ) → mistakes s mine (Leaf l e) ≡ wrongOf s mine l
+  unfolding mistakes wrongOf answer
+  leaf-mistakes l e = refl
+
+  pub split-mistakes : (c : ℕ) (t : Float) (a b x y : ℕ) → mistakes s mine (Split c t a b x y) ≡ wrongOf s (leftPart s mine c t) a + wrongOf s (rightPart s mine c t) b
+  unfolding mistakes wrongOf answer
+  split-mistakes c t a b x y =
+      tally-parts (λ r. leftPart s mine c t r && not (eqb (labelOf s r) a)) (λ r. rightPart s mine c t r && not (eqb (labelOf s r) b))
+      (λ r. mine r && not (eqb (labelOf s r) (pick (goesLeft (valueOf s c r) t) a b)))
+      (λ r. split-bit (mine r) (goesLeft (valueOf s c r) t) (labelOf s r) a b) (everyRow s)
+
+  pub told-mistakes : (support : ℕ) (x : Side) → Told s support mine x → mistakes s mine x ≡ sideError x
+  told-mistakes support (Leaf l e) h = leaf-mistakes l e ∙ sym (h .1)
+  told-mistakes support (Split c t a b x y) h = omega (arith, split-mistakes c t a b x y, h .lost-is, h .missed-is)
+
+  pub told-proper : (support : ℕ) (x : Side) → Told s support mine x → Proper s x
+  told-proper support (Leaf l e) h = h .0
+  told-proper support (Split c t a b x y) h = (h .column-in, h .left-in, h .right-in, measured-comparable t (h .threshold-in))
+
+pub mistaken : Mistaken
+mistaken s sound support mark =
+    let k = tells s sound support mark in
+    record {
+      left = told-mistakes s mark support ((sidesOf s support mark) .left) (k .left);
+      right = told-mistakes s (other mark) support ((sidesOf s support mark) .right) (k .right);
+    }
+
+-- ---- more rows
+
+bits-less : (a b w : Bool) → bit a ≤ bit b → bit (a && w) + 0 ≤ bit (b && w) + 0
+bits-less true true w h = omega arith
+bits-less true false w h = absurd (omega arith)
+bits-less false b w h = omega arith
+
+bits-more : (a b w : Bool) → bit a ≤ bit b → bit (b && w) + bit a ≤ bit (a && w) + bit b
+bits-more true true w h = omega arith
+bits-more true false w h = absurd (omega arith)
+bits-more false true true h = omega arith
+bits-more false true false h = omega arith
+bits-more false false w h = omega arith
+
+module _ (s : Sheet) (few more : ℕ → Bool) (inside : (r : ℕ) → r < s .rows → bit (few r) ≤ bit (more r)) (x : Side) where
+  pub mistakes-less : mistakes s few x ≤ mistakes s more x
+  unfolding mistakes
+  mistakes-less =
+      omega (
+        arith,
+        rows-shift s (λ r. few r && not (eqb (labelOf s r) (answer s x r))) (λ _. false) (λ r. more r && not (eqb (labelOf s r) (answer s x r))) (λ _. false)
+            (λ r h. bits-less (few r) (more r) (not (eqb (labelOf s r) (answer s x r))) (inside r h)),
+      )
+
+  pub mistakes-more : mistakes s more x + sizeOf s few ≤ mistakes s few x + sizeOf s more
+  unfolding mistakes sizeOf
+  mistakes-more =
+      rows-shift s (λ r. more r && not (eqb (labelOf s r) (answer s x r))) few (λ r. few r && not (eqb (labelOf s r) (answer s x r))) more
+      (λ r h. bits-more (few r) (more r) (not (eqb (labelOf s r) (answer s x r))) (inside r h))
+
+pub grows : Grows
+grows s few more inside n m p q = (
+  omega (arith, p .least (q .best) (q .proper), mistakes-less s few more inside (q .best), q .reached),
+  omega (arith, q .least (p .best) (p .proper), mistakes-more s few more inside (p .best), p .reached),
+)

@@ -1,0 +1,189 @@
+-- A root question at any threshold that leaves rows on both sides parts the rows as a cut of its column does: a sorted column parts at one place, where the
+-- value rises, and that is a cut. Its mistakes are its two sides'. Assumes nothing.
+use mathlib.Core.Path.{_≡_, sym, ap, _∙_, subst}
+use Prim.Native.Nat.{ℕ, zero, suc, _+_, _-_, _≤_, _<_}
+use native.Mathlib.Omega.{arith}
+use mathlib.Core.Bool.{Bool, true, false, not, _&&_}
+use mathlib.Core.List.{List, [], _∷_}
+use lib.ListN.{length, getD}
+use lib.Dec.{T, not-T, leb, ltb, eqb, leb→le, le→leb, eqb→eq, eqb-refl}
+use lib.Ieee.{Float}
+use Rattle.basics.specs.Choice.{pick, bit}
+use Rattle.basics.specs.Lists.{All, tally, table}
+use Rattle.basics.proofs.Choice.{decide, order, bit-true, bit-false, bit-le}
+use Rattle.basics.proofs.Lists.{all-map, tally-none, tally-parts, getD-table, length-table}
+use Rattle.order.specs.Order.{key, comparable}
+use Rattle.sheet.specs.Sheet.{Sheet, labelOf, rowAt, valueAt, countOf, placeOf, everyRow, orderOf}
+use Rattle.sheet.specs.Sound.{Sound}
+use Rattle.tree.specs.declared.Side.{Side}
+use Rattle.leaves_score.specs.Scan.{other, sizeOf}
+use Rattle.leaves_score.specs.Root.{cutThreshold, markOf, sidesAt, errorsAt}
+use Rattle.side_laws.specs.Opt.{answer, mistakes}
+use Rattle.side_laws.specs.Root.{SameRows, AnyRoot, rootMistakes, CutMistakes, RootLeast, OneSide}
+use Rattle.side_laws.proofs.Tallies.{rows-alike}
+use Rattle.side_laws.proofs.Fair.{keyOf, Sorted, sorted, goes}
+use Rattle.side_laws.proofs.Mistakes.{mistaken}
+use Rattle.side_laws.proofs.Cuts.{rise-cut, parts-at, others-at, at-cut}
+use Rattle.side_laws.proofs.Metric.{left-opt, right-opt}
+
+-- ---- a sorted list parts at a key
+
+at-all : (P : ℕ → Type 0) (xs : List ℕ) (i : ℕ) → All P xs → i < length xs → P (getD xs i 0)
+at-all P [] i h k = absurd (omega arith)
+at-all P (x ∷ xs) zero h k = h .0
+at-all P (x ∷ xs) (suc i) h k = at-all P xs i (h .1) (omega arith)
+
+none-up-to : (f : ℕ → ℕ) (t x : ℕ) (xs : List ℕ) → Sorted f (x ∷ xs) → t < f x → tally (λ r. leb (f r) t) (x ∷ xs) ≡ 0
+none-up-to f t x xs h g =
+    tally-none (λ r. leb (f r) t) (x ∷ xs)
+    (no x g, all-map (λ y. f x ≤ f y) (λ y. T (not (leb (f y) t))) (λ y l. no y (omega arith)) xs (h .0))
+  where
+    no : (y : ℕ) → t < f y → T (not (leb (f y) t))
+    no y l = not-T (leb (f y) t) (λ b. absurd (omega (arith, leb→le (f y) t b)))
+
+-- as many members as are up to the key come first ..
+till : (f : ℕ → ℕ) (t : ℕ) (xs : List ℕ) (i : ℕ) → Sorted f xs → i < tally (λ r. leb (f r) t) xs → f (getD xs i 0) ≤ t
+till f t [] i h k = absurd (omega arith)
+till f t (x ∷ xs) zero h k = order (f x) t (λ l. l) (λ l. absurd (omega (arith, none-up-to f t x xs h l)))
+till f t (x ∷ xs) (suc i) h k = till f t xs i (h .1) (omega (arith, bit-le (leb (f x) t)))
+
+-- .. and the others are past it
+past : (f : ℕ → ℕ) (t : ℕ) (xs : List ℕ) (i : ℕ) → Sorted f xs → tally (λ r. leb (f r) t) xs ≤ i → i < length xs → t < f (getD xs i 0)
+past f t [] i h k g = absurd (omega arith)
+past f t (x ∷ xs) zero h k g = order (f x) t (λ l. absurd (omega (arith, bit-true (leb (f x) t) (le→leb (f x) t l)))) (λ l. l)
+past f t (x ∷ xs) (suc i) h k g =
+    order (f x) t
+    (λ l. past f t xs i (h .1) (omega (arith, bit-true (leb (f x) t) (le→leb (f x) t l))) (omega arith))
+    (λ l. omega (arith, at-all (λ y. f x ≤ f y) xs i (h .0) (omega arith)))
+
+-- ---- every row has a place
+
+table-has : (p : ℕ → Bool) (g : ℕ → ℕ) (n i : ℕ) → i < n → T (p (g i)) → 1 ≤ tally p (table g n)
+table-has p g zero i h y = absurd (omega arith)
+table-has p g (suc n) zero h y = omega (arith, bit-true (p (g 0)) y)
+table-has p g (suc n) (suc i) h y = omega (arith, table-has p (λ k. g (suc k)) n i (omega arith) y)
+
+table-find : (p : ℕ → Bool) (g : ℕ → ℕ) (n : ℕ) → 1 ≤ tally p (table g n) → (i : ℕ) × (i < n) × T (p (g i))
+table-find p g zero h = absurd (omega arith)
+table-find p g (suc n) h =
+    decide (p (g 0)) (λ y. (0, omega arith, y))
+    (λ m. let z = table-find p (λ k. g (suc k)) n (omega (arith, bit-false (p (g 0)) m)) in (suc (z .0), omega (arith, z .1), z .2))
+
+module _ (s : Sheet) (sound : Sound s) (c : ℕ) (here : c < s .columns) where
+  pub place-of : (r : ℕ) → r < s .rows → (i : ℕ) × (i < s .rows) × (rowAt s c i ≡ r)
+  unfolding orderOf
+  place-of r h =
+      let z = table-find (λ x. eqb x r) (rowAt s c) (s .rows)
+      (omega (arith, sound .column c here .each-once (λ x. eqb x r), table-has (λ x. eqb x r) (λ x. x) (s .rows) r h (eqb-refl r))) in
+      (z .0, z .1, eqb→eq (rowAt s c (z .0)) r (z .2))
+
+  -- ---- any root threshold
+
+  module _ (t : Float) (comp : T (comparable t)) (some : 1 ≤ sizeOf s (markOf s c t)) (others : 1 ≤ sizeOf s (other (markOf s c t))) where
+    abbrev count : ℕ
+    count = sizeOf s (markOf s c t)
+
+    count-is : tally (λ r. leb (keyOf s c r) (key t)) (orderOf s c) ≡ count
+    count-is =
+        sound .column c here .each-once (λ r. leb (keyOf s c r) (key t))
+        ∙ unfold sizeOf markOf in rows-alike s (λ r. leb (keyOf s c r) (key t)) (markOf s c t) (λ r h. ap bit (sym (goes s sound c here t comp r h)))
+
+    row-is : (i : ℕ) → i < s .rows → keyOf s c (getD (orderOf s c) i 0) ≡ key (valueAt s c i)
+    row-is i h = unfold orderOf valueAt in ap (keyOf s c) (getD-table (rowAt s c) (s .rows) i 0 h)
+
+    order-long : length (orderOf s c) ≡ s .rows
+    order-long = unfold orderOf in length-table (rowAt s c) (s .rows)
+
+    inside : count < s .rows
+    inside = omega (arith, others-at s sound c here t)
+
+    from : (i : ℕ) → i < count → key (valueAt s c i) ≤ key t
+    from i h = omega (arith, row-is i (omega (arith, inside)), till (keyOf s c) (key t) (orderOf s c) i (sorted s sound c here) (omega (arith, count-is)))
+
+    upon : (i : ℕ) → count ≤ i → i < s .rows → key t < key (valueAt s c i)
+    upon i h k = omega (arith, row-is i k, past (keyOf s c) (key t) (orderOf s c) i (sorted s sound c here) (omega (arith, count-is)) (omega (arith, order-long)))
+
+    cut : (k : ℕ) × (k < countOf s c) × (placeOf s c k ≡ suc (count - 1))
+    cut =
+        rise-cut s sound c here (count - 1) (omega (arith, inside))
+        (omega (arith, from (count - 1) (omega arith), upon (suc (count - 1)) (omega arith) (omega (arith, inside))))
+
+    pub as-cut : (k : ℕ) × (k < countOf s c) × SameRows s c t (cutThreshold s c k)
+    as-cut = (cut .0, cut .1, same)
+      where
+        place-is : placeOf s c (cut .0) ≡ count
+        place-is = omega (arith, cut .2)
+
+        same : SameRows s c t (cutThreshold s c (cut .0))
+        same r h =
+            let z = place-of r h in
+            subst (λ (x : ℕ). markOf s c t x ≡ markOf s c (cutThreshold s c (cut .0)) x) (z .2)
+            (parts-at s sound c here t comp count (omega (arith, inside)) from upon (z .0) (z .1)
+            ∙ ap (λ (p : ℕ). ltb (z .0) p) (sym place-is) ∙ sym (at-cut s sound c here (cut .0) (cut .1) .parts (z .0) (z .1)))
+
+pub any-root : AnyRoot
+any-root s sound c here t comp some others = as-cut s sound c here t comp some others
+
+-- ---- mistakes
+
+root-bit : (m : Bool) (l a b : ℕ) → bit (not (eqb l (pick m a b))) ≡ bit (m && not (eqb l a)) + bit (not m && not (eqb l b))
+unfolding pick
+root-bit true l a b = omega arith
+root-bit false l a b = omega arith
+
+pub root-parts : (s : Sheet) (c : ℕ) (t : Float) (l r : Side) → rootMistakes s c t l r ≡ mistakes s (markOf s c t) l + mistakes s (other (markOf s c t)) r
+unfolding rootMistakes mistakes
+root-parts s c t l r =
+    tally-parts (λ x. markOf s c t x && not (eqb (labelOf s x) (answer s l x))) (λ x. not (markOf s c t x) && not (eqb (labelOf s x) (answer s r x)))
+    (λ x. not (eqb (labelOf s x) (pick (markOf s c t x) (answer s l x) (answer s r x))))
+    (λ x. root-bit (markOf s c t x) (labelOf s x) (answer s l x) (answer s r x)) (everyRow s)
+
+pub cut-mistakes : CutMistakes
+unfolding errorsAt sidesAt
+cut-mistakes s sound support c k =
+    let m = mistaken s sound support (markOf s c (cutThreshold s c k)) in
+    omega (
+      arith,
+      root-parts s c (cutThreshold s c k) (sidesAt s support c k .left) (sidesAt s support c k .right),
+      m .left,
+      m .right,
+    )
+
+-- the same rows, the same mistakes
+same-mistakes : (s : Sheet) (few more : ℕ → Bool) (x : Side) → ((r : ℕ) → r < s .rows → few r ≡ more r) → mistakes s few x ≡ mistakes s more x
+unfolding mistakes
+same-mistakes s few more x h =
+    rows-alike s (λ r. few r && not (eqb (labelOf s r) (answer s x r))) (λ r. more r && not (eqb (labelOf s r) (answer s x r)))
+    (λ r k. ap (λ (b : Bool). bit (b && not (eqb (labelOf s r) (answer s x r)))) (h r k))
+
+pub root-least : RootLeast
+root-least s sound support small c here t comp some others l r pl pr =
+    let z = any-root s sound c here t comp some others in
+    let u : Float = cutThreshold s c (z .0) in (
+      z .0,
+      z .1,
+      omega (
+        arith,
+        root-parts s c t l r,
+        same-mistakes s (markOf s c t) (markOf s c u) l (z .2),
+        same-mistakes s (other (markOf s c t)) (other (markOf s c u)) r (λ x h. ap not (z .2 x h)),
+        left-opt s sound support small c here (z .0) .least l pl,
+        right-opt s sound support small c here (z .0) .least r pr,
+      ),
+    )
+
+both-bits : (m w : Bool) → bit w ≡ bit (m && w) + bit (not m && w)
+both-bits true w = omega arith
+both-bits false w = omega arith
+
+pub one-side : OneSide
+unfolding mistakes
+one-side s sound support small c here k x h =
+    let m : ℕ → Bool = markOf s c (cutThreshold s c k) in
+    omega (
+      arith,
+      left-opt s sound support small c here k .least x h,
+      right-opt s sound support small c here k .least x h,
+      tally-parts (λ r. m r && not (eqb (labelOf s r) (answer s x r))) (λ r. not (m r) && not (eqb (labelOf s r) (answer s x r)))
+          (λ r. not (eqb (labelOf s r) (answer s x r))) (λ r. both-bits (m r) (not (eqb (labelOf s r) (answer s x r)))) (everyRow s),
+    )

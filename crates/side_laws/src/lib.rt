@@ -1,0 +1,1 @@
+// Laws of the scan of the two sides. Statements stand in specs/, proofs in proofs/; there is no code here.
