@@ -1,0 +1,202 @@
+-- A column's loop begins with the definition's first state and ends with its run's; column after column, the code's standing is that of the definition's
+-- progress. Assumes nothing.
+use mathlib.Core.Path.{_≡_, refl, sym, ap, _∙_, subst}
+use Prim.Native.Nat.{ℕ, suc, _+_, _-_, _*_, _≤_, _<_}
+use native.Mathlib.Omega.{arith}
+use mathlib.Core.Option.{Option, none, some}
+use mathlib.Core.List.{List, []}
+use lib.Dec.{leb, ltb, ltb→lt, lt→ltb, le→leb}
+use Rattle.basics.specs.Choice.{pick, Hit}
+use Rattle.basics.specs.Lists.{table}
+use Rattle.basics.proofs.Choice.{decide, pick-true, pick-false, nltb, nleb, reach, by-ltb}
+use Rattle.sheet.specs.declared.Terms.{Terms}
+use Rattle.sheet.specs.Limits.{mostRows}
+use Rattle.sheet.specs.Sheet.{Sheet}
+use Rattle.interval_pruner.specs.declared.Tried.the-variants.{Nothing}
+use Rattle.interval_pruner.specs.Column.{Column, errorOf}
+use Rattle.interval_queue.specs.declared.Queue.{Queue}
+use Rattle.interval_queue.specs.Ring.{contents}
+use Rattle.column_search.specs.Search.{State, zerosOf, start, columnRun, triedOf}
+use Rattle.column_search.specs.Laws.{Feasible, Lowered}
+use Rattle.column_search.specs.Loop.{Looping}
+use Rattle.column_search.proofs.Count.{loops, tries}
+use Rattle.column_search.proofs.Error.{lowers}
+use Rattle.depth2.specs.declared.Held.the-variants.{Empty}
+use Rattle.depth2.specs.declared.Standing.{Standing}
+use Rattle.depth2.specs.declared.Course.{Course}
+use Rattle.depth2.specs.Lent.{ringOf, Enough, Became}
+use Rattle.depth2.specs.Ready.{Whole}
+use Rattle.depth2.specs.Try.{columnOf}
+use Rattle.depth2.specs.Search.{Progress, bestAfter, joined, afterColumn, searchColumns, searched}
+use Rattle.depth2.specs.Course.{heldAfter, standingAfter, heldOf, standingOf, feasibleAt, firstAt, lastAt, Stands, mostTries, Begun, Pushing, Opened, columnAfter, Between}
+use Rattle.depth2.proofs.Lent.{became-enough}
+use Rattle.depth2.proofs.Queueing.{ring-slots}
+use Rattle.depth2.proofs.Turns.{feasible-cuts, end-listed}
+
+-- ---- the first interval
+
+pub first-pushing : (rows first last : ℕ) (xs : List ℕ) → Enough rows xs → first ≤ last → last < mostRows
+    → Pushing rows xs (record { head = 0; waiting = 0 }) (record { first = first; last = last; left = Nothing; right = Nothing })
+first-pushing rows first last xs enough h l =
+    record {
+      enough = enough;
+      sane = record { head-in = omega (arith, ring-slots rows xs enough, enough .some); few = omega arith };
+      room = omega (arith, enough .some);
+      small = λ _. record { first = omega arith; last = omega arith; left = tt; right = tt };
+    }
+
+pub none-waits : (words : List ℕ) (q : Queue) → q .waiting ≤ 0 → contents words q ≡ []
+unfolding contents
+none-waits words q h = let z : q .waiting ≡ 0 = omega arith in ap (table _) z
+
+module _ (s : Sheet) (t : Terms) (c : ℕ) (p : Standing) (xs : List ℕ) (course : Course) (begun : Begun s t c xs) where
+  abbrev col : Column
+  col = columnOf s t c
+
+  fair : Feasible col (firstAt s t c) (lastAt s t c)
+  fair = feasible-cuts s t c (begun .whole) (begun .here) (begun .some)
+
+  looping : Looping col (t .bound) (firstAt s t c) (lastAt s t c) (p .error)
+  looping = loops col (t .bound) (firstAt s t c) (lastAt s t c) (p .error) fair
+
+  -- the loop begins with the run's first state
+  pub opened-stands : Opened (s .rows) xs (firstAt s t c) (lastAt s t c) p course → Stands s t c p xs course
+  unfolding standingAfter heldAfter zerosOf
+  opened-stands o =
+      let n : p .tried ≡ p .tried + 0 = omega arith in
+      record {
+        state = start (firstAt s t c) (lastAt s t c) (p .error);
+        running = looping .begins;
+        matches =
+            record {
+              standing = o .standing-is ∙ (λ k. record { error = p .error; tried = n k; held = p .held });
+              zeros = o .zeros;
+              queue = o .queue;
+              sane = o .sane;
+              agrees = tt;
+            };
+      }
+
+  -- and ends with its last
+  pub stands-done : Stands s t c p xs course → course .queue .waiting ≤ 0
+      → course .standing ≡ standingAfter s (t .support) c p (columnRun col (t .bound) (firstAt s t c) (lastAt s t c) (p .error))
+  stands-done stands h =
+      stands .matches .standing
+      ∙ ap (standingAfter s (t .support) c p)
+      (looping .done (stands .state) (stands .running) (sym (stands .matches .queue) ∙ none-waits (ringOf (s .rows) xs) (course .queue) h))
+
+pub begun-after : (s : Sheet) (t : Terms) (c : ℕ) (xs ys table ring : List ℕ) → Begun s t c xs → Became (s .rows) xs ys table ring → Begun s t c ys
+begun-after s t c xs ys table ring begun b =
+    record { whole = begun .whole; here = begun .here; some = begun .some; enough = became-enough (s .rows) xs ys table ring (begun .enough) b }
+
+-- ---- column after column
+
+module _ (s : Sheet) (t : Terms) (c : ℕ) (whole : Whole s) (here : c < s .columns) where
+  -- at most so many tries in a column
+  pub column-few : (p : Standing) → columnAfter s t c p .tried ≤ p .tried + mostTries
+  unfolding columnAfter standingAfter columnRun
+  column-few p =
+      by-ltb (λ (z : Standing). z .tried ≤ p .tried + mostTries) (firstAt s t c) (feasibleAt s t c .end)
+      (λ some. omega (
+        arith,
+        tries (columnOf s t c) (t .bound) (firstAt s t c) (lastAt s t c) (p .error) (2 * (suc (lastAt s t c) - firstAt s t c)) (feasible-cuts s t c whole here some),
+        end-listed s t c whole here,
+        whole .sound .column c here .cuts .count-most,
+        whole .sound .limited .rows-most,
+      ))
+      (λ none. omega arith)
+
+  held-joined : (best : Option ℕ) (e error : ℕ) (old : Option (ℕ × ℕ)) → (best ≡ none → error ≡ e)
+      → heldAfter s (t .support) c best e (heldOf s (t .support) old error) ≡ heldOf s (t .support) (bestAfter c best old) e
+  unfolding heldAfter heldOf bestAfter
+  held-joined none e error old same = ap (heldOf s (t .support) old) (same refl)
+  held-joined (some k) e error old same = refl
+
+  unbettered : (error : ℕ) (run : State) → Lowered (columnOf s t c) (firstAt s t c) (lastAt s t c) error run → run .best ≡ none → error ≡ run .error
+  unbettered error run l e =
+      reach (run .error) error (l .falls) (λ z. sym z)
+      (λ h. absurd (subst (Hit (λ k. (firstAt s t c ≤ k) × (k ≤ lastAt s t c) × (run .error ≡ errorOf (columnOf s t c) k))) e (l .named h)))
+
+  pub column-joined : (q : Progress) → columnAfter s t c (standingOf s (t .support) q) ≡ standingOf s (t .support) (afterColumn s t c q)
+  unfolding columnAfter afterColumn standingOf standingAfter joined
+  column-joined q =
+      decide (ltb (firstAt s t c) (feasibleAt s t c .end))
+      (λ y.
+      let run : State = columnRun (columnOf s t c) (t .bound) (firstAt s t c) (lastAt s t c) (q .error) in
+      let l = lowers (columnOf s t c) (t .bound) (firstAt s t c) (lastAt s t c) (q .error) (feasible-cuts s t c whole here (ltb→lt _ _ y)) in
+      let h = held-joined (run .best) (run .error) (q .error) (q .best) (unbettered (q .error) run l) in
+      pick-true (ltb (firstAt s t c) (feasibleAt s t c .end)) _ _ y
+      ∙ (λ k. record { error = run .error; tried = q .tried + triedOf run; held = h k })
+      ∙ sym (ap (standingOf s (t .support)) (pick-true (ltb (firstAt s t c) (feasibleAt s t c .end)) (joined c q run) q y)))
+      (λ y.
+      pick-false (ltb (firstAt s t c) (feasibleAt s t c .end)) _ _ y
+      ∙ sym (ap (standingOf s (t .support)) (pick-false (ltb (firstAt s t c) (feasibleAt s t c .end)) _ q y)))
+
+-- one column of the definition's
+pub columns-next : (s : Sheet) (t : Terms) (n c : ℕ) (q : Progress) → c < n
+    → searchColumns s t (n - c) c q
+    ≡ pick (leb (afterColumn s t c q .error) (t .gap)) (afterColumn s t c q) (searchColumns s t (n - (c + 1)) (c + 1) (afterColumn s t c q))
+unfolding searchColumns
+columns-next s t n c q h =
+    let a : n - c ≡ suc (n - (c + 1)) = omega arith in
+    let b : suc c ≡ c + 1 = omega arith in
+    ap (λ (k : ℕ). searchColumns s t k c q) a
+    ∙ ap (λ (k : ℕ). pick (leb (afterColumn s t c q .error) (t .gap)) (afterColumn s t c q) (searchColumns s t (n - (c + 1)) k (afterColumn s t c q))) b
+
+pub column-none : (s : Sheet) (t : Terms) (c : ℕ) (p : Standing) → feasibleAt s t c .end ≤ firstAt s t c → p ≡ columnAfter s t c p
+unfolding columnAfter
+column-none s t c p h = sym (pick-false (ltb (firstAt s t c) (feasibleAt s t c .end)) _ p (nltb (firstAt s t c) (feasibleAt s t c .end) h))
+
+pub column-some : (s : Sheet) (t : Terms) (c : ℕ) (p : Standing) → firstAt s t c < feasibleAt s t c .end
+    → standingAfter s (t .support) c p (columnRun (columnOf s t c) (t .bound) (firstAt s t c) (lastAt s t c) (p .error)) ≡ columnAfter s t c p
+unfolding columnAfter
+column-some s t c p h = sym (pick-true (ltb (firstAt s t c) (feasibleAt s t c .end)) _ p (lt→ltb (firstAt s t c) (feasibleAt s t c .end) h))
+
+pub between-start : (s : Sheet) (t : Terms) → Between s t 0 (record { error = t .error; tried = 0; held = Empty })
+unfolding standingOf heldOf searched
+between-start s t =
+    let n : s .columns - 0 ≡ s .columns = omega arith in
+    record {
+      progress = record { error = t .error; best = none; tried = 0 };
+      standing-is = refl;
+      comes = ap (λ (k : ℕ). searchColumns s t k 0 (record { error = t .error; best = none; tried = 0 })) n;
+      few = omega arith;
+    }
+
+module _ (s : Sheet) (t : Terms) (c : ℕ) (p : Standing) (whole : Whole s) (here : c < s .columns) (between : Between s t c p) where
+  after-is : columnAfter s t c p ≡ standingOf s (t .support) (afterColumn s t c (between .progress))
+  after-is = ap (columnAfter s t c) (between .standing-is) ∙ column-joined s t c whole here (between .progress)
+
+  error-after : columnAfter s t c p .error ≡ afterColumn s t c (between .progress) .error
+  unfolding standingOf
+  error-after = ap (λ (z : Standing). z .error) after-is
+
+  pub between-next : t .gap < columnAfter s t c p .error → Between s t (c + 1) (columnAfter s t c p)
+  between-next h =
+      let next : Progress = afterColumn s t c (between .progress) in
+      record {
+        progress = next;
+        standing-is = after-is;
+        comes =
+            sym (pick-false (leb (next .error) (t .gap)) next _ (nleb (next .error) (t .gap) (omega (arith, error-after))))
+            ∙ sym (columns-next s t (s .columns) c (between .progress) here)
+            ∙ between .comes;
+        few = omega (arith, between .few, column-few s t c whole here p);
+      }
+
+  -- "After a column, stop if the error is at most the gap."
+  pub between-stop : columnAfter s t c p .error ≤ t .gap → columnAfter s t c p ≡ standingOf s (t .support) (searched s t)
+  between-stop h =
+      let next : Progress = afterColumn s t c (between .progress) in
+      after-is
+      ∙ ap (standingOf s (t .support))
+      (sym (pick-true (leb (next .error) (t .gap)) next _ (le→leb (next .error) (t .gap) (omega (arith, error-after))))
+      ∙ sym (columns-next s t (s .columns) c (between .progress) here)
+      ∙ between .comes)
+
+pub between-end : (s : Sheet) (t : Terms) (c : ℕ) (p : Standing) → c ≡ s .columns → Between s t c p → p ≡ standingOf s (t .support) (searched s t)
+unfolding searchColumns
+between-end s t c p e between =
+    let n : s .columns - c ≡ 0 = omega arith in
+    between .standing-is
+    ∙ ap (standingOf s (t .support)) (sym (ap (λ (k : ℕ). searchColumns s t k c (between .progress)) n) ∙ between .comes)

@@ -1,0 +1,13 @@
+-- Laws of the search, for other crates to cite.
+pub mod Table
+pub mod Lent
+pub mod Marks
+pub mod Alike
+pub mod Try
+pub mod Queueing
+pub mod Places
+pub mod Steps
+pub mod Turns
+pub mod Columns
+pub mod Answer
+pub mod Laws

@@ -1,0 +1,56 @@
+-- `depth2::prune` meets its contract. The table is the part of the lent words before the ring. Assumes nothing.
+use mathlib.Core.Path.{sym, ap, _∙_}
+use native.Mathlib.Omega.{arith}
+use borrow.Author.Needs.{needs}
+use lib.Seq.{length-take-le}
+use Rattle.depth2.specs.Lent.{tableOf}
+use Rattle.depth2.specs.Course.{prunedOf}
+use mathlib.Core.Bool.{Bool}
+use Rattle.basics.specs.Choice.{pick}
+use Rattle.interval_pruner.specs.declared.Shrunk.the-variants.{Dropped}
+use Rattle.interval_pruner.specs.Column.{Column, columnOf}
+use Rattle.interval_pruner.specs.Pruner.{shrunkOf}
+use Rattle.depth2.proofs.prune.Statement.{statement}
+use Rattle.depth2.proofs.prune.Tie as tie
+
+mul-end : tie.Need-mul-end
+mul-end c = search needs
+
+slice-aggregate-subinterval-pruning : tie.Need-slice-aggregate-subinterval-pruning
+slice-aggregate-subinterval-pruning c = sym (length-take-le _ _ (omega (arith, c .before .before .before .pre .words)))
+
+subinterval-pruning-requires : tie.Need-subinterval-pruning-requires
+subinterval-pruning-requires c κs = search needs
+
+returns : tie.Need-returns
+unfolding prunedOf tableOf pick
+returns c ascending =
+    let a = c .before .before .before .before .before .args in
+    let col : Column = columnOf (a .places .now) (tableOf (a .rows) (a .scratch .now)) (a .gap) (a .small) in
+    sym (ap (λ (b : Bool). pick b Dropped (shrunkOf col (a .zeros) (a .best) (a .bound))) (sym (c .before .subinterval-pruning .ensures (a .places .now)) ∙ c .if1 .taken))
+
+slice-aggregate-interval-shrinking : tie.Need-slice-aggregate-interval-shrinking
+slice-aggregate-interval-shrinking c = sym (length-take-le _ _ (omega (arith, c .before .before .before .before .before .before .pre .words)))
+
+interval-shrinking-requires : tie.Need-interval-shrinking-requires
+interval-shrinking-requires c κs = search needs
+
+returns-2 : tie.Need-returns-2
+unfolding prunedOf tableOf pick
+returns-2 c ascending =
+    let a = c .before .before .before .before .before .before .before .args in
+    let col : Column = columnOf (a .places .now) (tableOf (a .rows) (a .scratch .now)) (a .gap) (a .small) in
+    c .interval-shrinking .ensures ascending
+    ∙ sym (ap (λ (b : Bool). pick b Dropped (shrunkOf col (a .zeros) (a .best) (a .bound))) (sym (c .before .before .before .subinterval-pruning .ensures (a .places .now)) ∙ c .before .before .if1 .left))
+
+pub prune-spec : {M : Type 1} → statement M
+prune-spec =
+    tie.close
+    (tie.spec
+    mul-end
+    slice-aggregate-subinterval-pruning
+    subinterval-pruning-requires
+    returns
+    slice-aggregate-interval-shrinking
+    interval-shrinking-requires
+    returns-2)

@@ -1,0 +1,107 @@
+-- `depth2::search_columns` meets its contract. The loop's invariant: the standing is that of a progress from which the definition comes to its end. Assumes nothing.
+use mathlib.Core.Path.{refl, sym, ap, _∙_, subst}
+use Prim.Native.Nat.{_+_, _-_, _≤_, _<_}
+use native.Mathlib.Omega.{arith}
+use Rattle.sheet.specs.Sheet.{Sheet}
+use Rattle.sheet.specs.Check.{sheetOf}
+use Rattle.depth2.specs.Lent.{tableOf, ringOf, Became}
+use Rattle.depth2.specs.Course.{Between}
+use borrow.Author.Needs.{needs}
+use Rattle.depth2.specs.declared.Standing.{Standing}
+use Rattle.depth2.proofs.Lent.{became-enough, became-then}
+use Rattle.depth2.proofs.Columns.{between-start, between-next, between-stop, between-end}
+use Rattle.depth2.proofs.search_columns.Statement.{statement}
+use Rattle.depth2.proofs.search_columns.Tie as tie
+
+abbrev Inv-loop : tie.InvT-loop
+Inv-loop size terms values codes order cuts counts scratch₀ standing₀ column₀ scratch standing column =
+    (column ≤ size .columns)
+    × Between (sheetOf size values codes order cuts counts) terms column standing
+    × Became (size .rows) scratch₀ scratch (tableOf (size .rows) scratch) (ringOf (size .rows) scratch)
+
+abbrev μ-loop : tie.MeasureT-loop
+μ-loop size terms values codes order cuts counts scratch₀ standing₀ column₀ scratch standing column =
+    size .columns - column
+
+loop-holds : tie.Need-loop-holds Inv-loop μ-loop
+loop-holds c =
+    let a = c .before .before .before .before .before .before .args in
+    (omega arith, between-start (sheetOf (a .size) (a .values .now) (a .codes .now) (a .order .now) (a .cuts .now) (a .counts .now)) (a .terms), record { size = refl; rest = refl; table-is = refl; ring-is = refl })
+
+search-column-requires : tie.Need-search-column-requires Inv-loop μ-loop
+search-column-requires c κs =
+    let start = c .before .before .before .before .before .before .before .before .before .before in
+    let a = start .args in
+    let loop = c .before .before .before .loop in
+    record {
+      whole = start .pre .0;
+      here = omega arith;
+      enough = became-enough (a .size .rows) (a .scratch .now) (loop .scratch) _ _ (start .pre .1) (loop .inv .2);
+      few = omega (arith, loop .inv .1 .few, loop .inv .0, start .pre .0 .sound .limited .columns-most);
+    }
+
+same-length : tie.Need-same-length Inv-loop μ-loop
+same-length c = c .before .before .before .before .before .search-column .ensures .1 .size ∙ c .before .before .before .before .before .before .before .before .before .loop .inv .2 .size
+
+returns : tie.Need-returns Inv-loop μ-loop
+returns c =
+    let start = c .before .before .before .before .before .before .before .before .before .before .before .before .before .before .before .before in
+    let a = start .args in
+    let s : Sheet = (sheetOf (a .size) (a .values .now) (a .codes .now) (a .order .now) (a .cuts .now) (a .counts .now)) in
+    let loop = c .before .before .before .before .before .before .before .before .before .loop in
+    let call = c .before .before .before .before .before .search-column in
+    let here : loop .column < a .size .columns = omega (arith, c .before .before .before .before .before .before .before .if1 .taken) in
+    let e = ap (λ (z : Standing). z .error) (call .ensures .0) in
+    let after = became-then (a .size .rows) (a .scratch .now) (loop .scratch) _ _ _ _ _ (loop .inv .2) (call .ensures .1) in (
+      call .ensures .0 ∙ between-stop s (a .terms) (loop .column) (loop .standing) (start .pre .0) here (loop .inv .1) (omega (arith, e, c .if2 .taken)),
+      after,
+    )
+
+add-column : tie.Need-add-column Inv-loop μ-loop
+add-column c =
+    let start = c .before .before .before .before .before .before .before .before .before .before .before .before .before .before .before .before in
+    record { fits = omega (arith, c .before .before .before .before .before .before .before .if1 .taken, start .pre .0 .sound .limited .columns-most) }
+
+loop-less : tie.Need-loop-less Inv-loop μ-loop
+loop-less c = omega arith
+
+loop-again : tie.Need-loop-again Inv-loop μ-loop
+loop-again c =
+    let start = c .before .before .before .before .before .before .before .before .before .before .before .before .before .before .before .before in
+    let a = start .args in
+    let s : Sheet = (sheetOf (a .size) (a .values .now) (a .codes .now) (a .order .now) (a .cuts .now) (a .counts .now)) in
+    let loop = c .before .before .before .before .before .before .before .before .before .loop in
+    let call = c .before .before .before .before .before .search-column in
+    let here : loop .column < a .size .columns = omega (arith, c .before .before .before .before .before .before .before .if1 .taken) in
+    let e = ap (λ (z : Standing). z .error) (call .ensures .0) in
+    let after = became-then (a .size .rows) (a .scratch .now) (loop .scratch) _ _ _ _ _ (loop .inv .2) (call .ensures .1) in (
+      omega arith,
+      subst (Between s (a .terms) (loop .column + 1)) (sym (call .ensures .0))
+          (between-next s (a .terms) (loop .column) (loop .standing) (start .pre .0) here (loop .inv .1) (omega (arith, e, c .if2 .left))),
+      after,
+    )
+
+same-length-2 : tie.Need-same-length-2 Inv-loop μ-loop
+same-length-2 c = c .before .before .loop .inv .2 .size
+
+returns-2 : tie.Need-returns-2 Inv-loop μ-loop
+returns-2 c =
+    let a = c .before .before .before .before .before .before .before .before .before .args in
+    let loop = c .before .before .loop in
+    (between-end (sheetOf (a .size) (a .values .now) (a .codes .now) (a .order .now) (a .cuts .now) (a .counts .now)) (a .terms) (loop .column) (loop .standing) (omega (arith, loop .inv .0)) (loop .inv .1), loop .inv .2)
+
+pub search-columns-spec : {M : Type 1} → statement M
+search-columns-spec =
+    tie.close
+    (tie.spec
+    Inv-loop
+    μ-loop
+    loop-holds
+    search-column-requires
+    same-length
+    returns
+    add-column
+    loop-less
+    loop-again
+    same-length-2
+    returns-2)

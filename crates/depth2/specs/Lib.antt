@@ -1,0 +1,7 @@
+pub mod Try
+pub mod Search
+pub mod Table
+pub mod Lent
+pub mod Ready
+pub mod Course
+pub mod Laws

@@ -1,0 +1,807 @@
+// The search of a whole sheet (depth2.rs): every column's cuts as the first question, the two-side scan below it.
+use interval_pruner::Bound;
+use interval_pruner::Shrunk;
+use interval_pruner::Tried;
+use interval_pruner::Zeros;
+use interval_queue::Popped;
+use interval_queue::Queue;
+use leaves_score::Sides;
+use sheet::Checked;
+use sheet::Size;
+use sheet::Terms;
+use sheet::WORDS_PER_ROW;
+use tree::Answer;
+use tree::Side;
+use tree::Tree;
+ghost use mathlib.Core.Path.{_≡_};
+ghost use Prim.Native.Nat.{ℕ, _+_, _-_, _*_, _≤_, _<_, min};
+ghost use mathlib.Core.List.{List, [], _++_};
+ghost use lib.Dec.{leb, ltb};
+ghost use lib.Ieee.{Float, nan};
+ghost use lib.ListN.{length, getD};
+ghost use Rattle.basics.specs.Choice.{pick};
+ghost use Rattle.sheet.specs.Check.{sheetOf, cleared};
+ghost use Rattle.basics.specs.Lists.{total};
+ghost use Rattle.sheet.specs.Limits.{mostRows, mostColumns};
+ghost use Rattle.sheet.specs.Sheet.{placesOf};
+ghost use Rattle.tree.specs.Answer.{sideError};
+ghost use Rattle.interval_pruner.specs.Pruner.{zerosAfter, recordedAfter};
+ghost use Rattle.cuts.specs.Lookups.{Ascending};
+ghost use Rattle.interval_pruner.specs.Column.{columnOf};
+ghost use Rattle.interval_queue.specs.Ring.{contents, popped, pushed, pushedWords};
+ghost use Rattle.interval_queue.specs.Laws.{Sane};
+ghost use Rattle.column_search.specs.Search.{State, part, tryCut, columnRun};
+ghost use Rattle.column_search.specs.Loop.{weight};
+ghost use Rattle.leaves_score.specs.Scan.{sidesOf};
+ghost use Rattle.leaves_score.specs.Root.{cutThreshold};
+ghost use Rattle.leaves_score.specs.Lists.{goLeft, Scannable};
+ghost use Rattle.depth2.specs.Try.{triedTree, columnOf as columnIn};
+ghost use Rattle.depth2.specs.Search.{searched, searchOf, scratchOf};
+ghost use Rattle.depth2.specs.Lent.{tableOf, ringOf, marksOf, Enough, Became};
+ghost use Rattle.depth2.specs.declared.Standing.{Standing};
+ghost use Rattle.depth2.specs.Course.{Attempted, Matches, Stands, Turning, Attempting, Parting, Pushing, Queued, prunedOf, partsQueued, improvedBy, endsColumn, mostTries, standingAfter, standingOf, Opened, Entering, Searching, columnAfter, answerHeld};
+ghost use Rattle.depth2.specs.Ready.{Marking, MarkedTo, MarkingCut, placeBefore, Cutting, Trying, PlacedIn, Whole};
+
+// The lent words in words a row: first the errors of the cuts tried, then the ring of intervals, then the side marks, then one to spare.
+const RING: usize = 2;
+
+const MARKS: usize = 6;
+
+const SPARE: usize = 7;
+
+// The first interval that waits.
+fn next_interval(rows: usize, queue: Queue, scratch: &[u32]) -> Popped
+    requires { ⌜ Enough rows (now scratch) ⌝ }
+    ensures { λ r. ⌜ r ≡ popped (ringOf rows (now (scratch .entry))) queue ⌝ }
+{
+    let from = RING * rows;
+    let to = MARKS * rows;
+    interval_queue::pop(&scratch[from..to], queue)
+}
+
+// One interval more.
+fn add_interval(rows: usize, queue: Queue, bound: Bound, scratch: &mut [u32]) -> Queue
+    requires { ⌜ Enough rows (now scratch) ⌝ }
+    ensures { λ r. ⌜ r ≡ pushed (ringOf rows (now (scratch .entry))) queue ⌝ }
+    ensures lent { λ _. ⌜ Became rows (now (scratch .entry)) (now (scratch .exit)) (tableOf rows (now (scratch .entry))) (pushedWords (ringOf rows (now (scratch .entry))) queue bound) ⌝ }
+{
+    let from = RING * rows;
+    let to = MARKS * rows;
+    interval_queue::push(&mut scratch[from..to], queue, bound)
+}
+
+// The errors of a tried cut are kept, and the zero marks moved.
+fn keep_errors(
+    rows: usize,
+    zeros: Zeros,
+    cut: usize,
+    left: u32,
+    right: u32,
+    scratch: &mut [u32],
+) -> Zeros
+    requires { ⌜ Enough rows (now scratch) ⌝ }
+    ensures { λ r. ⌜ r ≡ zerosAfter zeros cut left right ⌝ }
+    ensures lent { λ _. ⌜ Became rows (now (scratch .entry)) (now (scratch .exit)) (recordedAfter (tableOf rows (now (scratch .entry))) cut left right) (ringOf rows (now (scratch .entry))) ⌝ }
+{
+    let end = RING * rows;
+    interval_pruner::add_result(&mut scratch[..end], zeros, cut, left, right)
+}
+
+fn wide(x: u16) -> usize
+    ensures { λ r. ⌜ r ≡ x ⌝ }
+{
+    x as usize
+}
+
+// 0 for a place before the cut's, else 1.
+fn side_mark(i: usize, place: usize) -> u32
+    ensures { λ r. ⌜ r ≡ pick (ltb i place) 0 1 ⌝ }
+{
+    if i < place { 0 } else { 1 }
+}
+
+// Every row is marked with the side that it goes to: the rows placed before the cut go left.
+fn mark_sides(size: Size, order: &[u16], column: usize, place: usize, marks: &mut [u32])
+    requires { ⌜ Marking size (now order) column (now marks) ⌝ }
+    ensures { λ _. ⌜ length (now (marks .exit)) ≡ length (now (marks .entry)) ⌝ }
+    ensures marked { λ _. ⌜ MarkedTo size (now (order .entry)) column place (now (marks .exit)) (size .rows) ⌝ }
+{
+    let base = column * size.rows;
+    let mut i: usize = 0;
+    while i < size.rows {
+        let row = wide(order[base + i]);
+        let mark = side_mark(i, place);
+        marks[row] = mark;
+        i += 1;
+    }
+}
+
+// The value at a sorted place of the column whose entries start at base.
+fn value_at(values: &[f64], order: &[u16], base: usize, place: usize) -> f64
+    requires { ⌜ (base + place < length (now order)) × (base + getD (now order) (base + place) 0 < length (now values)) ⌝ }
+    ensures { λ r. ⌜ r ≡ getD (now (values .entry)) (base + getD (now (order .entry)) (base + place) 0) nan ⌝ }
+{
+    let row = wide(order[base + place]);
+    values[base + row]
+}
+
+// Where the lower value of a cut's threshold stands.
+fn preceding_place(cuts: &[u16], base: usize, cut: usize) -> usize
+    requires { ⌜ base + cut < length (now cuts) ⌝ }
+    ensures { λ r. ⌜ r ≡ placeBefore (now (cuts .entry)) base cut ⌝ }
+{
+    if cut == 0 {
+        return 0;
+    }
+    wide(cuts[base + cut - 1])
+}
+
+// The threshold of a cut as the first question.
+fn root_threshold(
+    size: Size,
+    values: &[f64],
+    order: &[u16],
+    cuts: &[u16],
+    column: usize,
+    cut: usize,
+) -> f64
+    requires { ⌜ Cutting size (now values) (now order) (now cuts) column cut ⌝ }
+    ensures { λ r. ⌜ ((codes counts : List ℕ) → r ≡ cutThreshold (sheetOf size (now (values .entry)) codes (now (order .entry)) (now (cuts .entry)) counts) column cut) ⌝ }
+{
+    let base = column * size.rows;
+    let from = preceding_place(cuts, base, cut);
+    let place = wide(cuts[base + cut]);
+    let lower = value_at(values, order, base, from);
+    let upper = value_at(values, order, base, place);
+    threshold::threshold_between(lower, upper)
+}
+
+// A side's error; a side has no more rows than the sheet.
+fn side_error(side: Side) -> u32
+    requires { ⌜ sideError side ≤ mostRows ⌝ }
+    ensures { λ r. ⌜ r ≡ sideError side ⌝ }
+{
+    match side {
+        Side::Leaf { label: _, error } => error,
+        Side::Split {
+            column: _,
+            threshold: _,
+            left: _,
+            right: _,
+            lost,
+            missed,
+        } => lost + missed,
+    }
+}
+
+// The rows' marks at a cut.
+fn mark_cut(size: Size, order: &[u16], cuts: &[u16], column: usize, cut: usize, scratch: &mut [u32])
+    requires { ⌜ MarkingCut size (now order) (now cuts) column cut (now scratch) ⌝ }
+    ensures { λ _. ⌜ Became (size .rows) (now (scratch .entry)) (now (scratch .exit)) (tableOf (size .rows) (now (scratch .entry))) (ringOf (size .rows) (now (scratch .entry))) ⌝ }
+    ensures marked { λ _. ⌜ MarkedTo size (now (order .entry)) column (getD (now (cuts .entry)) (column * size .rows + cut) 0) (marksOf (size .rows) (now (scratch .exit))) (size .rows) ⌝ }
+{
+    let rows = size.rows;
+    let base = column * rows;
+    let place = wide(cuts[base + cut]);
+    let from = MARKS * rows;
+    let to = SPARE * rows;
+    mark_sides(size, order, column, place, &mut scratch[from..to]);
+}
+
+// The best of each side, by the rows' marks.
+fn scan_sides(
+    size: Size,
+    support: u32,
+    values: &[f64],
+    codes: &[u8],
+    order: &[u16],
+    scratch: &[u32],
+) -> Sides
+    requires { ⌜ Enough (size .rows) (now scratch) × Scannable (sheetOf size (now values) (now codes) (now order) [] []) (marksOf (size .rows) (now scratch)) ⌝ }
+    ensures { λ r. ⌜ r ≡ sidesOf (sheetOf size (now (values .entry)) (now (codes .entry)) (now (order .entry)) [] []) support (goLeft (marksOf (size .rows) (now (scratch .entry)))) ⌝ }
+{
+    let rows = size.rows;
+    let from = MARKS * rows;
+    let to = SPARE * rows;
+    leaves_score::get_leaves_score(size, support, values, codes, order, &scratch[from..to])
+}
+
+// One cut as the first question: the tree that it makes.
+fn try_cut(
+    size: Size,
+    support: u32,
+    values: &[f64],
+    codes: &[u8],
+    order: &[u16],
+    cuts: &[u16],
+    column: usize,
+    cut: usize,
+    scratch: &mut [u32],
+) -> Tree
+    requires { ⌜ Trying size (now values) (now codes) (now order) (now cuts) column cut (now scratch) ⌝ }
+    ensures { λ r. ⌜ ((counts : List ℕ) → r ≡ triedTree (sheetOf size (now (values .entry)) (now (codes .entry)) (now (order .entry)) (now (cuts .entry)) counts) support column cut) ⌝ }
+    ensures lent { λ _. ⌜ Became (size .rows) (now (scratch .entry)) (now (scratch .exit)) (tableOf (size .rows) (now (scratch .entry))) (ringOf (size .rows) (now (scratch .entry))) ⌝ }
+{
+    let threshold = root_threshold(size, values, order, cuts, column, cut);
+    mark_cut(size, order, cuts, column, cut, scratch);
+    let sides = scan_sides(size, support, values, codes, order, scratch);
+    let left = sides.left;
+    let right = sides.right;
+    let error = side_error(left) + side_error(right);
+    Tree {
+        error,
+        column,
+        threshold,
+        left,
+        right,
+    }
+}
+
+// ---- one interval
+
+fn smaller(a: u32, b: u32) -> u32
+    ensures { λ r. ⌜ r ≡ min a b ⌝ }
+{
+    if a < b { a } else { b }
+}
+
+// a - b, not below 0
+fn minus(a: u32, b: u32) -> u32
+    ensures { λ r. ⌜ r ≡ a - b ⌝ }
+{
+    if b < a { a - b } else { 0 }
+}
+
+fn is_small(support: u32) -> bool
+    ensures { λ r. ⌜ r ≡ leb support 1 ⌝ }
+{
+    support <= 1
+}
+
+// The places of a column's cuts.
+fn places_of<'a>(size: Size, cuts: &'a [u16], counts: &[u16], column: usize) -> &'a [u16]
+    requires { ⌜ PlacedIn size (now cuts) (now counts) column ⌝ }
+    ensures { λ r. ⌜ ((values : List Float) (codes order : List ℕ) → now r ≡ placesOf (sheetOf size values codes order (now (cuts .entry)) (now (counts .entry))) column) ⌝ }
+{
+    let base = column * size.rows;
+    let end = base + wide(counts[column]);
+    &cuts[base..end]
+}
+
+// Steps 1 and 2: what is left of an interval.
+fn prune(
+    rows: usize,
+    places: &[u16],
+    gap: u32,
+    small: bool,
+    zeros: Zeros,
+    bound: Bound,
+    best: u32,
+    scratch: &[u32],
+) -> Shrunk
+    requires { ⌜ Enough rows (now scratch) ⌝ }
+    ensures { λ r. ⌜ (Ascending (now (places .entry)) → r ≡ prunedOf (columnOf (now (places .entry)) (tableOf rows (now (scratch .entry))) gap small) zeros best bound) ⌝ }
+{
+    let end = RING * rows;
+    if interval_pruner::subinterval_pruning(&scratch[..end], bound, gap, best, small) {
+        return Shrunk::Dropped;
+    }
+    interval_pruner::interval_shrinking(places, &scratch[..end], zeros, bound, gap, best, small)
+}
+
+// A part is queued if it is not empty.
+fn queue_part(rows: usize, queue: Queue, bound: Bound, scratch: &mut [u32]) -> Queue
+    requires { ⌜ Pushing rows (now scratch) queue bound ⌝ }
+    ensures { λ r. ⌜ Queued rows (now (scratch .entry)) (now (scratch .exit)) queue r (part bound) ⌝ }
+    ensures lent { λ _. ⌜ Became rows (now (scratch .entry)) (now (scratch .exit)) (tableOf rows (now (scratch .entry))) (ringOf rows (now (scratch .exit))) ⌝ }
+{
+    if bound.first <= bound.last {
+        return add_interval(rows, queue, bound, scratch);
+    }
+    queue
+}
+
+// Step 5: the upper part, then the lower.
+fn queue_parts(
+    rows: usize,
+    places: &[u16],
+    gap: u32,
+    small: bool,
+    zeros: Zeros,
+    excess: u32,
+    bound: Bound,
+    cut: usize,
+    queue: Queue,
+    scratch: &mut [u32],
+) -> Queue
+    requires { ⌜ Parting rows (now places) zeros bound cut queue (now scratch) ⌝ }
+    ensures { λ r. ⌜ Queued rows (now (scratch .entry)) (now (scratch .exit)) queue r (partsQueued (now (places .entry)) gap small zeros excess cut bound) ⌝ }
+    ensures lent { λ _. ⌜ Became rows (now (scratch .entry)) (now (scratch .exit)) (tableOf rows (now (scratch .entry))) (ringOf rows (now (scratch .exit))) ⌝ }
+{
+    if bound.first == bound.last {
+        return queue;
+    }
+    let parts = interval_pruner::neighbourhood_pruning(
+        places,
+        zeros,
+        gap,
+        excess,
+        bound.first,
+        cut,
+        small,
+    );
+    let left = bound.left;
+    let right = bound.right;
+    let upper = Bound {
+        first: parts.upper,
+        last: bound.last,
+        left: Tried::Cut(cut),
+        right,
+    };
+    let lower = Bound {
+        first: bound.first,
+        last: parts.lower,
+        left,
+        right: Tried::Cut(cut),
+    };
+    let more = queue_part(rows, queue, upper, scratch);
+    queue_part(rows, more, lower, scratch)
+}
+
+// The rule held so far, if one was found.
+pub enum Held {
+    Empty,
+    Rule(Tree),
+}
+
+// The state between two columns.
+pub struct Standing {
+    pub error: u32,
+    pub tried: u32,
+    pub held: Held,
+}
+
+// The state between two intervals of a column.
+pub struct Course {
+    pub standing: Standing,
+    pub zeros: Zeros,
+    pub queue: Queue,
+}
+
+// Steps 3 and 4: one more try; a strictly lower error replaces the tree.
+fn improved(standing: Standing, tree: Tree) -> Standing
+    requires { ⌜ standing .tried ≤ mostColumns * mostTries + mostTries ⌝ }
+    ensures { λ r. ⌜ r ≡ improvedBy standing tree ⌝ }
+{
+    let tried = standing.tried + 1;
+    if tree.error < standing.error {
+        return Standing {
+            error: tree.error,
+            tried,
+            held: Held::Rule(tree),
+        };
+    }
+    let held = standing.held;
+    Standing {
+        error: standing.error,
+        tried,
+        held,
+    }
+}
+
+fn ends_column(error: u32, current: u32) -> bool
+    ensures { λ r. ⌜ r ≡ endsColumn error current ⌝ }
+{
+    if error < current { error == 0 } else { false }
+}
+
+// A try, and the zero marks after it.
+struct Attempt {
+    tree: Tree,
+    zeros: Zeros,
+}
+
+// Step 3: a cut is tried, and its errors are kept.
+fn try_and_keep(
+    size: Size,
+    support: u32,
+    values: &[f64],
+    codes: &[u8],
+    order: &[u16],
+    cuts: &[u16],
+    column: usize,
+    cut: usize,
+    zeros: Zeros,
+    scratch: &mut [u32],
+) -> Attempt
+    requires { ⌜ Trying size (now values) (now codes) (now order) (now cuts) column cut (now scratch) ⌝ }
+    ensures { λ r. ⌜ ((counts : List ℕ) → Attempted (sheetOf size (now (values .entry)) (now (codes .entry)) (now (order .entry)) (now (cuts .entry)) counts) support column cut zeros (now (scratch .entry)) (now (scratch .exit)) r) ⌝ }
+{
+    let rows = size.rows;
+    let tree = try_cut(
+        size,
+        support,
+        values,
+        codes,
+        order,
+        cuts,
+        column,
+        cut,
+        scratch,
+    );
+    let left = tree.left;
+    let right = tree.right;
+    let marks = keep_errors(
+        rows,
+        zeros,
+        cut,
+        side_error(left),
+        side_error(right),
+        scratch,
+    );
+    Attempt { tree, zeros: marks }
+}
+
+// What waits after a try: nothing if the column ends, else the parts of its interval too.
+fn next_queue(
+    rows: usize,
+    places: &[u16],
+    gap: u32,
+    small: bool,
+    zeros: Zeros,
+    excess: u32,
+    ended: bool,
+    bound: Bound,
+    cut: usize,
+    queue: Queue,
+    scratch: &mut [u32],
+) -> Queue
+    requires { ⌜ Parting rows (now places) zeros bound cut queue (now scratch) ⌝ }
+    ensures { λ r. ⌜ contents (ringOf rows (now (scratch .exit))) r ≡ pick ended [] (contents (ringOf rows (now (scratch .entry))) queue ++ partsQueued (now (places .entry)) gap small zeros excess cut bound) ⌝ }
+    ensures sane { λ r. ⌜ Sane (ringOf rows (now (scratch .exit))) r ⌝ }
+    ensures lent { λ _. ⌜ Became rows (now (scratch .entry)) (now (scratch .exit)) (tableOf rows (now (scratch .entry))) (ringOf rows (now (scratch .exit))) ⌝ }
+{
+    if ended {
+        return Queue {
+            head: queue.head,
+            waiting: 0,
+        };
+    }
+    queue_parts(
+        rows,
+        places,
+        gap,
+        small,
+        zeros,
+        excess,
+        bound,
+        cut,
+        queue,
+        scratch,
+    )
+}
+
+// Steps 3 to 5 of an interval.
+fn try_interval(
+    size: Size,
+    terms: Terms,
+    values: &[f64],
+    codes: &[u8],
+    order: &[u16],
+    cuts: &[u16],
+    counts: &[u16],
+    column: usize,
+    course: Course,
+    bound: Bound,
+    scratch: &mut [u32],
+) -> Course
+    requires { ⌜ Attempting (sheetOf size (now values) (now codes) (now order) (now cuts) (now counts)) terms column (now scratch) course bound ⌝ }
+    ensures { λ r. ⌜ ((p : Standing) (state : State) → Matches (sheetOf size (now (values .entry)) (now (codes .entry)) (now (order .entry)) (now (cuts .entry)) (now (counts .entry))) terms column p (now (scratch .entry)) course state → Matches (sheetOf size (now (values .entry)) (now (codes .entry)) (now (order .entry)) (now (cuts .entry)) (now (counts .entry))) terms column p (now (scratch .exit)) r (tryCut (columnIn (sheetOf size (now (values .entry)) (now (codes .entry)) (now (order .entry)) (now (cuts .entry)) (now (counts .entry))) terms column) (terms .bound) state (state .queue) bound)) ⌝ }
+    ensures lent { λ r. ⌜ Became (size .rows) (now (scratch .entry)) (now (scratch .exit)) (tableOf (size .rows) (now (scratch .exit))) (ringOf (size .rows) (now (scratch .exit))) ⌝ }
+{
+    let rows = size.rows;
+    let was = course.zeros;
+    let queue = course.queue;
+    let standing = course.standing;
+    let cut = (bound.first + bound.last) / 2;
+    let tried = try_and_keep(
+        size,
+        terms.support,
+        values,
+        codes,
+        order,
+        cuts,
+        column,
+        cut,
+        was,
+        scratch,
+    );
+    let tree = tried.tree;
+    let zeros = tried.zeros;
+    let next = improved(standing, tree);
+    let ended = ends_column(tree.error, standing.error);
+    let excess = minus(tree.error, smaller(next.error, terms.bound));
+    let small = is_small(terms.support);
+    let places = places_of(size, cuts, counts, column);
+    let waiting = next_queue(
+        rows,
+        places,
+        terms.gap,
+        small,
+        zeros,
+        excess,
+        ended,
+        bound,
+        cut,
+        queue,
+        scratch,
+    );
+    Course {
+        standing: next,
+        zeros,
+        queue: waiting,
+    }
+}
+
+// One interval: steps 1 to 5.
+fn turn(
+    size: Size,
+    terms: Terms,
+    values: &[f64],
+    codes: &[u8],
+    order: &[u16],
+    cuts: &[u16],
+    counts: &[u16],
+    column: usize,
+    course: Course,
+    scratch: &mut [u32],
+) -> Course
+    requires { ⌜ Turning (sheetOf size (now values) (now codes) (now order) (now cuts) (now counts)) terms column (now scratch) course ⌝ }
+    ensures { λ r. ⌜ ((p : Standing) → Stands (sheetOf size (now (values .entry)) (now (codes .entry)) (now (order .entry)) (now (cuts .entry)) (now (counts .entry))) terms column p (now (scratch .entry)) course → Stands (sheetOf size (now (values .entry)) (now (codes .entry)) (now (order .entry)) (now (cuts .entry)) (now (counts .entry))) terms column p (now (scratch .exit)) r) ⌝ }
+    ensures lighter { λ r. ⌜ total weight (contents (ringOf (size .rows) (now (scratch .exit))) (r .queue)) < total weight (contents (ringOf (size .rows) (now (scratch .entry))) (course .queue)) ⌝ }
+    ensures lent { λ r. ⌜ Became (size .rows) (now (scratch .entry)) (now (scratch .exit)) (tableOf (size .rows) (now (scratch .exit))) (ringOf (size .rows) (now (scratch .exit))) ⌝ }
+{
+    let rows = size.rows;
+    let zeros = course.zeros;
+    let queue = course.queue;
+    let standing = course.standing;
+    let popped = next_interval(rows, queue, scratch);
+    let bound = popped.bound;
+    let others = popped.queue;
+    let next = Course {
+        standing,
+        zeros,
+        queue: others,
+    };
+    let best = smaller(standing.error, terms.bound);
+    let small = is_small(terms.support);
+    let places = places_of(size, cuts, counts, column);
+    let pruned = prune(rows, places, terms.gap, small, zeros, bound, best, scratch);
+    let Shrunk::To(left) = pruned else {
+        return next;
+    };
+    try_interval(
+        size,
+        terms,
+        values,
+        codes,
+        order,
+        cuts,
+        counts,
+        column,
+        next,
+        left,
+        scratch,
+    )
+}
+
+// ---- a column
+
+// One interval waits, the feasible cuts.
+fn begin_column(
+    rows: usize,
+    first: usize,
+    last: usize,
+    standing: Standing,
+    scratch: &mut [u32],
+) -> Course
+    requires { ⌜ Enough rows (now scratch) × (first ≤ last) × (last < mostRows) ⌝ }
+    ensures { λ r. ⌜ Opened rows (now (scratch .exit)) first last standing r ⌝ }
+    ensures lent { λ _. ⌜ Became rows (now (scratch .entry)) (now (scratch .exit)) (tableOf rows (now (scratch .exit))) (ringOf rows (now (scratch .exit))) ⌝ }
+{
+    let all = Bound {
+        first,
+        last,
+        left: Tried::Nothing,
+        right: Tried::Nothing,
+    };
+    let none = Queue {
+        head: 0,
+        waiting: 0,
+    };
+    let queue = queue_part(rows, none, all, scratch);
+    let zeros = Zeros {
+        left: Tried::Nothing,
+        right: Tried::Nothing,
+    };
+    Course {
+        standing,
+        zeros,
+        queue,
+    }
+}
+
+// The run of a column whose feasible cuts are numbered from first to last.
+fn run_column(
+    size: Size,
+    terms: Terms,
+    values: &[f64],
+    codes: &[u8],
+    order: &[u16],
+    cuts: &[u16],
+    counts: &[u16],
+    column: usize,
+    first: usize,
+    last: usize,
+    standing: Standing,
+    scratch: &mut [u32],
+) -> Standing
+    requires { ⌜ Entering (sheetOf size (now values) (now codes) (now order) (now cuts) (now counts)) terms column first last standing (now scratch) ⌝ }
+    ensures { λ r. ⌜ r ≡ standingAfter (sheetOf size (now (values .entry)) (now (codes .entry)) (now (order .entry)) (now (cuts .entry)) (now (counts .entry))) (terms .support) column standing (columnRun (columnIn (sheetOf size (now (values .entry)) (now (codes .entry)) (now (order .entry)) (now (cuts .entry)) (now (counts .entry))) terms column) (terms .bound) first last (standing .error)) ⌝ }
+    ensures lent { λ _. ⌜ Became (size .rows) (now (scratch .entry)) (now (scratch .exit)) (tableOf (size .rows) (now (scratch .exit))) (ringOf (size .rows) (now (scratch .exit))) ⌝ }
+{
+    let mut course = begin_column(size.rows, first, last, standing, scratch);
+    while 0 < course.queue.waiting {
+        course = turn(
+            size,
+            terms,
+            values,
+            codes,
+            order,
+            cuts,
+            counts,
+            column,
+            course,
+            scratch,
+        );
+    }
+    course.standing
+}
+
+fn wide_support(support: u32) -> usize
+    ensures { λ r. ⌜ r ≡ support ⌝ }
+{
+    support as usize
+}
+
+// One column's search.
+fn search_column(
+    size: Size,
+    terms: Terms,
+    values: &[f64],
+    codes: &[u8],
+    order: &[u16],
+    cuts: &[u16],
+    counts: &[u16],
+    column: usize,
+    standing: Standing,
+    scratch: &mut [u32],
+) -> Standing
+    requires { ⌜ Searching (sheetOf size (now values) (now codes) (now order) (now cuts) (now counts)) column standing (now scratch) ⌝ }
+    ensures { λ r. ⌜ r ≡ columnAfter (sheetOf size (now (values .entry)) (now (codes .entry)) (now (order .entry)) (now (cuts .entry)) (now (counts .entry))) terms column standing ⌝ }
+    ensures lent { λ _. ⌜ Became (size .rows) (now (scratch .entry)) (now (scratch .exit)) (tableOf (size .rows) (now (scratch .exit))) (ringOf (size .rows) (now (scratch .exit))) ⌝ }
+{
+    let places = places_of(size, cuts, counts, column);
+    let run = cuts::support_feasible_splits(places, size.rows, wide_support(terms.support));
+    if run.end <= run.first {
+        return standing;
+    }
+    run_column(
+        size,
+        terms,
+        values,
+        codes,
+        order,
+        cuts,
+        counts,
+        column,
+        run.first,
+        run.end - 1,
+        standing,
+        scratch,
+    )
+}
+
+// The columns in order. After a column, the search stops if the error is at most the gap.
+fn search_columns(
+    size: Size,
+    terms: Terms,
+    values: &[f64],
+    codes: &[u8],
+    order: &[u16],
+    cuts: &[u16],
+    counts: &[u16],
+    scratch: &mut [u32],
+) -> Standing
+    requires { ⌜ Whole (sheetOf size (now values) (now codes) (now order) (now cuts) (now counts)) × Enough (size .rows) (now scratch) ⌝ }
+    ensures { λ r. ⌜ r ≡ standingOf (sheetOf size (now (values .entry)) (now (codes .entry)) (now (order .entry)) (now (cuts .entry)) (now (counts .entry))) (terms .support) (searched (sheetOf size (now (values .entry)) (now (codes .entry)) (now (order .entry)) (now (cuts .entry)) (now (counts .entry))) terms) ⌝ }
+    ensures lent { λ _. ⌜ Became (size .rows) (now (scratch .entry)) (now (scratch .exit)) (tableOf (size .rows) (now (scratch .exit))) (ringOf (size .rows) (now (scratch .exit))) ⌝ }
+{
+    let mut standing = Standing {
+        error: terms.error,
+        tried: 0,
+        held: Held::Empty,
+    };
+    let mut column: usize = 0;
+    while column < size.columns {
+        standing = search_column(
+            size,
+            terms,
+            values,
+            codes,
+            order,
+            cuts,
+            counts,
+            column,
+            standing,
+            scratch,
+        );
+        if standing.error <= terms.gap {
+            return standing;
+        }
+        column += 1;
+    }
+    standing
+}
+
+// ---- the search
+
+fn answer_of(standing: Standing) -> Answer
+    ensures { λ r. ⌜ r ≡ answerHeld (standing .error) (standing .tried) (standing .held) ⌝ }
+{
+    let held = standing.held;
+    let error = standing.error;
+    let tried = standing.tried;
+    match held {
+        Held::Empty => Answer::Kept { error, tried },
+        Held::Rule(tree) => Answer::Found { tree, tried },
+    }
+}
+
+// The first words become 0.
+fn clear(scratch: &mut [u32], words: usize)
+    requires { ⌜ words ≤ length (now scratch) ⌝ }
+    ensures { λ _. ⌜ now (scratch .exit) ≡ cleared words (now (scratch .entry)) ⌝ }
+{
+    let mut i: usize = 0;
+    while i < words {
+        scratch[i] = 0;
+        i += 1;
+    }
+}
+
+// The search of a whole sheet: the input check, then the columns, then the lent words cleared.
+pub fn search(
+    size: Size,
+    terms: Terms,
+    values: &[f64],
+    codes: &[u8],
+    order: &[u16],
+    cuts: &[u16],
+    counts: &[u16],
+    scratch: &mut [u32],
+) -> Answer
+    ensures answer { λ r. ⌜ r ≡ searchOf (sheetOf size (now (values .entry)) (now (codes .entry)) (now (order .entry)) (now (cuts .entry)) (now (counts .entry))) terms (length (now (scratch .entry))) ⌝ }
+    ensures lent { λ _. ⌜ now (scratch .exit) ≡ scratchOf (sheetOf size (now (values .entry)) (now (codes .entry)) (now (order .entry)) (now (cuts .entry)) (now (counts .entry))) terms (now (scratch .entry)) ⌝ }
+{
+    let checked = sheet::check(size, terms, values, codes, order, cuts, counts, scratch);
+    match checked {
+        Checked::Refused(number, place) => Answer::TurnedBack { number, place },
+        Checked::Accepted => {
+            let standing = search_columns(size, terms, values, codes, order, cuts, counts, scratch);
+            let words = WORDS_PER_ROW * size.rows;
+            clear(scratch, words);
+            answer_of(standing)
+        }
+    }
+}
