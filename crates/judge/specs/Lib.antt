@@ -1,0 +1,5 @@
+pub mod Reasons
+pub mod Mistakes
+pub mod Judge
+pub mod Passing
+pub mod Laws
