@@ -1,0 +1,127 @@
+-- The three sentences. 1: any root question parts the rows as a cut does, no cut is passed over but by pruning that loses nothing, and a side's
+-- error is the least of all trees on its rows. 2: an error is replaced by a lower one only. 3: each leaf's error is a count of its rows.
+-- Assumes nothing.
+use mathlib.Core.Path.{_≡_, refl, sym, ap, ap₂, _∙_, subst}
+use Prim.Native.Nat.{ℕ, _+_, _≤_, _<_, min}
+use native.Mathlib.Omega.{arith}
+use mathlib.Core.Bool.{Bool, true, false, not}
+use mathlib.Core.Option.{Option, none, some}
+use Rattle.basics.specs.Choice.{Hit}
+use Rattle.order.proofs.Order.{finite-comparable}
+use Rattle.sheet.specs.Sheet.{Sheet, countOf}
+use Rattle.sheet.specs.Sound.{Sound}
+use Rattle.sheet.specs.declared.Terms.{Terms}
+use Rattle.sheet.specs.declared.Checked.{Checked}
+use Rattle.sheet.specs.declared.Checked.the-variants.{Accepted}
+use Rattle.sheet.specs.Check.{checkOf}
+use Rattle.sheet.specs.Laws.{Doubles}
+use Rattle.sheet.proofs.Accepted.{accepted-sound}
+use Rattle.tree.specs.declared.Side.{Side}
+use Rattle.tree.specs.declared.Tree.{Tree}
+use Rattle.tree.specs.declared.Answer.{Answer}
+use Rattle.tree.specs.declared.Answer.the-variants.{Kept, Found}
+use Rattle.tree.specs.Answer.{finalError, ruleOf, sideError}
+use Rattle.leaves_score.specs.Scan.{other}
+use Rattle.leaves_score.specs.Root.{cutThreshold, markOf, sidesAt, errorsAt}
+use Rattle.side_laws.specs.Told.{Told}
+use Rattle.side_laws.specs.Root.{AtCut, rootMistakes}
+use Rattle.side_laws.proofs.Sides.{tells}
+use Rattle.side_laws.proofs.Cuts.{at-cuts}
+use Rattle.side_laws.proofs.Root.{root-least, cut-mistakes}
+use Rattle.judge.specs.declared.Judgement.{Judgement}
+use Rattle.judge.specs.declared.Verdict.the-variants.{Judged}
+use Rattle.judge.specs.Mistakes.{rowsAt, rootLeftward, rootRightward, judgementOf}
+use Rattle.judge.specs.Judge.{judgeOf}
+use Rattle.depth2.specs.Try.{treeAt}
+use Rattle.depth2.specs.Search.{Progress, searched, answerOf, answerAfter, searchOf}
+use Rattle.certificate.specs.Certificate.{AnyTree, NothingBetter, NeverWorse, AsItSays, TreeTells, Certified, ownErrors}
+use Rattle.certificate.proofs.Progress.{Good, Named, cutError, searched-good, searched-best}
+use Rattle.certificate.proofs.Judging.{Accepts, accepts, proper, tree-sum, left-rows, right-rows, same-sheet, taken, told-wrong}
+
+-- ---- the answer of an accepted call
+
+answer-is : (s : Sheet) (t : Terms) (words : ℕ) → checkOf s t words ≡ Accepted → searchOf s t words ≡ answerOf s t (searched s t) (searched s t .best)
+unfolding searchOf answerAfter
+answer-is s t words e = ap (answerAfter s t) e
+
+error-is : (s : Sheet) (t : Terms) (p : Progress) (best : Option (ℕ × ℕ)) → finalError (answerOf s t p best) ≡ some (p .error)
+unfolding answerOf treeAt
+error-is s t p none = refl
+error-is s t p (some cut) = refl
+
+final-is : (s : Sheet) (t : Terms) (words : ℕ) → checkOf s t words ≡ Accepted → finalError (searchOf s t words) ≡ some (searched s t .error)
+final-is s t words e = ap finalError (answer-is s t words e) ∙ error-is s t (searched s t) (searched s t .best)
+
+-- what holds of the final error
+final : (P : ℕ → Type 0) (s : Sheet) (t : Terms) (words : ℕ) → checkOf s t words ≡ Accepted → P (searched s t .error) → Hit P (finalError (searchOf s t words))
+final P s t words e h = subst (Hit P) (sym (final-is s t words e)) h
+
+-- ---- 1
+
+pub nothing-better : NothingBetter
+nothing-better s t words doubles e small tree j any =
+    let sound : Sound s = accepted-sound s t words doubles e in
+    let a : Accepts s tree j = accepts s tree j (any .judged) in
+    let r =
+    root-least s sound (t .support) small (tree .column) (a .column) (tree .threshold) (finite-comparable (tree .threshold) (a .threshold) (any .double .root))
+    (subst (λ (n : ℕ). 1 ≤ n) (left-rows s tree) (any .left-rows)) (subst (λ (n : ℕ). 1 ≤ n) (right-rows s tree) (any .right-rows))
+    (tree .left) (tree .right) (proper s (tree .left) (a .left) (any .double .left)) (proper s (tree .right) (a .right) (any .double .right)) in
+    let m : rootMistakes s (tree .column) (tree .threshold) (tree .left) (tree .right) ≡ j .mistakes = sym (tree-sum s tree) ∙ ap (λ (x : Judgement). x .mistakes) (a .judgement) in
+    final (λ n. min n (t .bound) ≤ j .mistakes + t .gap) s t words e
+    (omega (arith, m, r .2, searched-best s sound t small (tree .column) (r .0) (a .column) (r .1)))
+
+-- ---- 2
+
+pub never-worse : NeverWorse
+never-worse s t words doubles e = final (λ n. n ≤ t .error) s t words e (searched-good s (accepted-sound s t words doubles e) t .falls)
+
+-- ---- 3
+
+module _ (s : Sheet) (t : Terms) (words : ℕ) (sound : Sound s) (e : checkOf s t words ≡ Accepted) (c k error : ℕ) (here : c < s .columns) (listed : k < countOf s c)
+    (is : error ≡ cutError s t c k) where
+  left-told : Told s (t .support) (markOf s c (cutThreshold s c k)) (sidesAt s (t .support) c k .left)
+  unfolding sidesAt
+  left-told = tells s sound (t .support) (markOf s c (cutThreshold s c k)) .left
+
+  right-told : Told s (t .support) (other (markOf s c (cutThreshold s c k))) (sidesAt s (t .support) c k .right)
+  unfolding sidesAt
+  right-told = tells s sound (t .support) (markOf s c (cutThreshold s c k)) .right
+
+  cut-tells : AsItSays s (treeAt s (t .support) c k error)
+  unfolding treeAt markOf judgementOf
+  cut-tells =
+      let tree : Tree = treeAt s (t .support) c k error in
+      record {
+        judgement = judgementOf s tree;
+        judged = same-sheet s t words e tree ∙ taken s tree (t .support) here (at-cuts s sound c k here listed .in-range) left-told right-told;
+        mistakes = tree-sum s tree ∙ cut-mistakes s sound (t .support) c k ∙ sym is;
+        left = told-wrong s (t .support) (rootLeftward s tree) (tree .left) left-told;
+        right = told-wrong s (t .support) (rootRightward s tree) (tree .right) right-told;
+      }
+
+pub tree-tells : TreeTells
+tree-tells s t words doubles e =
+    final (λ n. n < t .error → Hit (λ tree. (tree .error ≡ n) × AsItSays s tree) (ruleOf (searchOf s t words))) s t words e
+    (λ lower. subst (λ (x : Answer). Hit (λ tree. (tree .error ≡ searched s t .error) × AsItSays s tree) (ruleOf x)) (sym (answer-is s t words e))
+    (go (searched s t .best) (searched-good s sound t .named) lower))
+  where
+    sound : Sound s
+    sound = accepted-sound s t words doubles e
+
+    go : (best : Option (ℕ × ℕ)) → Named s t (searched s t .error) best → searched s t .error < t .error
+        → Hit (λ tree. (tree .error ≡ searched s t .error) × AsItSays s tree) (ruleOf (answerOf s t (searched s t) best))
+    go none same lower = absurd (omega arith)
+    go (some cut) n lower =
+        unfold answerOf in
+        (unfold treeAt in refl, cut-tells s t words sound e (cut .0) (cut .1) (searched s t .error) (n .0) (n .1) (n .2))
+
+-- ---- of what the search answers
+
+pub certified : (s : Sheet) (t : Terms) (words : ℕ) → Doubles s → (r : Answer) → r ≡ searchOf s t words → Certified s t words r
+certified s t words doubles r is =
+    subst (Certified s t words) (sym is)
+    (record {
+      nothing-better = nothing-better s t words doubles;
+      never-worse = never-worse s t words doubles;
+      tree-tells = tree-tells s t words doubles;
+    })
