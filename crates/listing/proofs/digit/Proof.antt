@@ -1,0 +1,42 @@
+-- `listing::digit` meets its contract. Assumes nothing.
+use mathlib.Core.Path.{sym}
+use Prim.Native.Nat.{_+_, _-_}
+use native.Mathlib.Omega.{arith}
+use borrow.Author.Needs.{needs}
+use lib.Dec.{ltb, lt→ltb, not-T, ltb→lt}
+use Rattle.basics.proofs.Choice.{pick-true, pick-false}
+use Rattle.listing.specs.Digits.{digitOf}
+use Rattle.listing.proofs.digit.Statement.{statement}
+use Rattle.listing.proofs.digit.Tie as tie
+
+cast-result : tie.Need-cast-result
+cast-result c = search needs
+
+add-result : tie.Need-add-result
+add-result c = search needs
+
+sub-result : tie.Need-sub-result
+sub-result c = search needs
+
+cast-result-2 : tie.Need-cast-result-2
+cast-result-2 c = search needs
+
+add-result-2 : tie.Need-add-result-2
+add-result-2 c = search needs
+
+returns : tie.Need-returns
+unfolding digitOf
+returns c =
+    let d = c .before .args .d in
+    sym (pick-true (ltb d 10) (48 + d) (55 + d) (lt→ltb d 10 (omega arith)))
+
+returns-2 : tie.Need-returns-2
+unfolding digitOf
+returns-2 c =
+    let d = c .before .args .d in
+    sym (pick-false (ltb d 10) (48 + d) (55 + d) (not-T (ltb d 10) (λ t. omega (arith, ltb→lt d 10 t))))
+
+pub digit-spec : {M : Type 1} → statement M
+digit-spec =
+    tie.close
+    (tie.spec cast-result add-result sub-result cast-result-2 add-result-2 returns returns-2)

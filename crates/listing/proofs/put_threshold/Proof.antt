@@ -1,0 +1,46 @@
+-- `listing::put_threshold` meets its contract: the word is stored, and then the digits. Assumes nothing.
+use mathlib.Core.Path.{subst}
+use Prim.Native.Nat.{ℕ, _-_}
+use native.Mathlib.Omega.{arith}
+use borrow.Author.Needs.{needs}
+use Rattle.listing.specs.Digits.{digitsOf, hexOf}
+use Rattle.listing.specs.Put.{Put}
+use Rattle.listing.specs.Listing.{spotOf}
+use Rattle.listing.proofs.Puts.{joined, length-digits}
+use Rattle.listing.proofs.put_threshold.Statement.{statement}
+use Rattle.listing.proofs.put_threshold.Tie as tie
+
+slice-aggregate-put-bytes : tie.Need-slice-aggregate-put-bytes
+slice-aggregate-put-bytes c = search needs
+
+put-bytes-requires : tie.Need-put-bytes-requires
+put-bytes-requires c κs = search needs
+
+bits-of-requires : tie.Need-bits-of-requires
+bits-of-requires c κs = search needs
+
+put-digits-requires : tie.Need-put-digits-requires
+put-digits-requires c κs = search needs
+
+same-length : tie.Need-same-length
+same-length c = search needs
+
+returns : tie.Need-returns
+unfolding spotOf hexOf
+returns c =
+    let text = c .before .before .before .before .before .before .before .put-bytes in
+    let digits = c .before .before .put-digits in (
+      joined (text .ensures) (subst (λ (b : ℕ). Put (text .last .0) (text .result) (digitsOf 16 16 b) (digits .result) (digits .last .0)) (c .before .before .before .bits-of .ensures) (digits .ensures)),
+      omega (arith, length-digits 16 16 (c .before .before .before .bits-of .result)),
+    )
+
+pub put-threshold-spec : {M : Type 1} → statement M
+put-threshold-spec =
+    tie.close
+    (tie.spec
+    slice-aggregate-put-bytes
+    put-bytes-requires
+    bits-of-requires
+    put-digits-requires
+    same-length
+    returns)
