@@ -1,0 +1,160 @@
+-- Every sheet within the limits, encoded, is accepted and decodes to itself: each number stands where the reading looks for it, and its bytes give it back. Assumes nothing.
+use mathlib.Core.Path.{_≡_, sym, ap, _∙_, subst}
+use Prim.Native.Nat.{ℕ, suc, _+_, _-_, _*_, _/_, _%_, _≤_, _<_}
+use native.Mathlib.Omega.{arith}
+use native.Mathlib.Nat.{mul-le-mul-right, add-zero, div-add-mod'}
+use mathlib.Core.Bool.{Bool, true, false, not, _&&_, _||_}
+use mathlib.Core.List.{List}
+use lib.ListN.{length, getD}
+use lib.Seq.{ext-getD}
+use lib.Dec.{T, ltb, leb, eqb, not-T, ltb→lt, leb→le, nltb→le}
+use lib.Ieee.{Float, nan, binary64, ofBits, toBits}
+use lib.Ieee.Bits.{ofBits-toBits, toBits-lt}
+use borrow.Author.Tests.{eq-eqb}
+use Rattle.basics.specs.Lists.{table}
+use Rattle.basics.proofs.Choice.{nor-left, nor-right}
+use Rattle.basics.proofs.Lists.{getD-table, length-table}
+use Rattle.sheet.specs.Limits.{mostSupport, mostError}
+use Rattle.threshold.specs.Threshold.{within}
+use Rattle.threshold.specs.Laws.{Measured}
+use Rattle.sheet_bytes.specs.declared.Head.{Head}
+use Rattle.sheet_bytes.specs.Bytes.{byteAt, numberAt, marked, headMark, rowMark}
+use Rattle.sheet_bytes.specs.Read.{headOf, headSize, rowSize, startOf, codeOf, cellsOf, cellAt, bitsOf, valueOf, valuesOf, codesOf, headBad, rowBad, further, termsBad, valueBad, codeBad}
+use Rattle.sheet_bytes.specs.Laws.{Accepted}
+use Rattle.sheet_bytes.specs.Encode.{bytesOf, headBytes, rowBytes, encodeOf, Within, RoundTrip}
+use Rattle.sheet_bytes.proofs.Numbers.{in-rows, in-columns}
+use Rattle.sheet_bytes.proofs.Stages.{rows-inside, columns-inside, labels-inside, accepts}
+use Rattle.sheet_bytes.proofs.Turns.{number-back}
+use Rattle.sheet_bytes.proofs.Places.{past-header, all-long, in-row, in-cell}
+
+-- ---- small things
+
+nor-both : (a b : Bool) → T (not a) → T (not b) → T (not (a || b))
+nor-both true b t u = absurd t
+nor-both false b t u = u
+
+twice : (b : Bool) → T b → T (not (not b))
+twice true t = tt
+twice false t = absurd t
+
+not-below : (a b : ℕ) → b ≤ a → T (not (ltb a b))
+not-below a b h = not-T (ltb a b) (λ t. omega (arith, ltb→lt a b t))
+
+-- ---- the header
+
+two-bytes : (n : ℕ) → n < 65536 → n % 256 + 256 * (n / 256 % 256 + 256 * 0) ≡ n
+two-bytes n h = omega arith
+
+four-bytes : (n : ℕ) → n < 4294967296 → n % 256 + 256 * (n / 256 % 256 + 256 * (n / 256 / 256 % 256 + 256 * (n / 256 / 256 / 256 % 256 + 256 * 0))) ≡ n
+four-bytes n h = omega arith
+
+one-byte : (n : ℕ) → n < 256 → n % 256 + 256 * 0 ≡ n
+one-byte n h = omega arith
+
+abbrev made : ℕ → ℕ → ℕ → ℕ → ℕ → ℕ → ℕ → Head
+made rows columns labels support gap error bound =
+    record { rows = rows; columns = columns; labels = labels; support = support; gap = gap; error = error; bound = bound }
+
+seven : {a a′ b b′ c c′ d d′ e e′ f f′ g g′ : ℕ} → a ≡ a′ → b ≡ b′ → c ≡ c′ → d ≡ d′ → e ≡ e′ → f ≡ f′ → g ≡ g′
+    → made a b c d e f g ≡ made a′ b′ c′ d′ e′ f′ g′
+seven p q r s t u v = cc
+
+module _ (h : Head) (values : List Float) (codes : List ℕ) (w : Within h values codes) where
+  abbrev bytes : List ℕ
+  bytes = encodeOf h values codes
+
+  terms : (h .support ≤ mostSupport) × (h .gap ≤ mostError) × (h .error ≤ mostError) × (h .bound ≤ mostError)
+  unfolding termsBad
+  terms =
+      let a = ltb mostSupport (h .support) in
+      let b = ltb mostError (h .gap) in
+      let c = ltb mostError (h .error) in
+      let d = ltb mostError (h .bound) in
+      let t = w .terms-good in
+      let u = nor-right a (b || (c || d)) t in
+      let v = nor-right b (c || d) u in (
+        nltb→le mostSupport (h .support) (nor-left a (b || (c || d)) t),
+        nltb→le mostError (h .gap) (nor-left b (c || d) u),
+        nltb→le mostError (h .error) (nor-left c d v),
+        nltb→le mostError (h .bound) (nor-right c d v),
+      )
+
+  head-back : h ≡ headOf bytes
+  unfolding encodeOf headBytes headOf numberAt
+  head-back =
+      let r : h .rows < 65536 = omega (arith, rows-inside h (w .size-good) .1) in
+      let k : h .columns < 256 = omega (arith, columns-inside h (w .size-good) .1) in
+      let l : h .labels < 256 = omega (arith, labels-inside h (w .size-good) .1) in
+      let s : h .support < 65536 = omega (arith, terms .0) in
+      let g : h .gap < 4294967296 = omega (arith, terms .1) in
+      let e : h .error < 4294967296 = omega (arith, terms .2) in
+      let b : h .bound < 4294967296 = omega (arith, terms .3) in
+      sym
+      (seven (two-bytes (h .rows) r) (one-byte (h .columns) k) (one-byte (h .labels) l) (two-bytes (h .support) s)
+      (four-bytes (h .gap) g) (four-bytes (h .error) e) (four-bytes (h .bound) b))
+
+  row-marked : (row : ℕ) → row < h .rows → marked rowMark bytes (startOf (h .columns) row) ≡ true
+  unfolding marked rowBytes
+  row-marked row a =
+      let first : byteAt bytes (startOf (h .columns) row) ≡ 82 = ap (byteAt bytes) (sym (add-zero (startOf (h .columns) row))) ∙ in-row h values codes row 0 a (omega arith) in
+      ap (λ (t : Bool). t && eqb (byteAt bytes (startOf (h .columns) row + 1)) 87) (eq-eqb (byteAt bytes (startOf (h .columns) row)) 82 first)
+      ∙ eq-eqb (byteAt bytes (startOf (h .columns) row + 1)) 87 (in-row h values codes row 1 a (omega arith))
+
+  code-back : (row : ℕ) → row < h .rows → codeOf bytes h row ≡ getD codes row 0
+  unfolding codeOf rowBytes
+  code-back row a = in-row h values codes row 2 a (omega arith)
+
+  -- ---- the values
+
+  value-back : (index : ℕ) → index < cellsOf h → valueOf bytes h index ≡ getD values index nan
+  unfolding valueOf bitsOf cellAt
+  value-back index a =
+      let some = rows-inside h (w .size-good) .0 in
+      let row = index % h .rows in
+      let column = index / h .rows in
+      let x = getD values index nan in
+      let back : column * h .rows + row ≡ index = div-add-mod' index (h .rows) in
+      let m : Measured x = w .measured index a in
+      ap (ofBits binary64)
+      (number-back 8 (toBits binary64 x) bytes (startOf (h .columns) row + 3 + 8 * column) (toBits-lt binary64 x (m .double))
+      (λ j g. in-cell h values codes row column j (in-rows index (h .rows) some) (in-columns index (h .rows) (h .columns) some a) g
+      ∙ ap (λ (i : ℕ). getD (bytesOf 8 (toBits binary64 (getD values i nan))) j 0) back))
+      ∙ ofBits-toBits binary64 x (m .double)
+
+  -- ---- the whole
+
+  short-row : (row : ℕ) → row < h .rows → startOf (h .columns) (suc row) ≤ length bytes
+  unfolding startOf
+  short-row row a = omega (arith, (all-long h values codes), mul-le-mul-right (rowSize (h .columns)) a)
+
+  encoded-accepted : Accepted bytes h
+  unfolding encodeOf headBytes headBad rowBad further valueBad codeBad marked
+  encoded-accepted =
+      record {
+        head = head-back;
+        head-good = nor-both (ltb (length bytes) headSize) (not (marked headMark bytes 0)) (not-below (length bytes) headSize (omega (arith, (all-long h values codes), past-header (h .columns) (h .rows)))) tt;
+        size-good = w .size-good;
+        not-large = w .not-large;
+        rows-good = λ row a.
+            nor-both (ltb (length bytes) (startOf (h .columns) (suc row))) (not (marked rowMark bytes (startOf (h .columns) row)))
+            (not-below (length bytes) (startOf (h .columns) (suc row)) (short-row row a))
+            (twice (marked rowMark bytes (startOf (h .columns) row)) (subst T (sym (row-marked row a)) tt));
+        no-more = not-below (startOf (h .columns) (h .rows)) (length bytes) (omega (arith, (all-long h values codes)));
+        terms-good = w .terms-good;
+        values-good = λ index a. twice (within (valueOf bytes h index)) (subst (λ (x : Float). T (within x)) (sym (value-back index a)) (w .measured index a .limited));
+        codes-good = λ row a. not-T (leb (h .labels) (codeOf bytes h row)) (λ t. omega (arith, leb→le (h .labels) (codeOf bytes h row) t, code-back row a, w .coded row a));
+      }
+
+pub round-trip : RoundTrip
+unfolding valuesOf codesOf
+round-trip h values codes w =
+    let b = encodeOf h values codes in
+    record {
+      taken = accepts b h .taken (encoded-accepted h values codes w);
+      values-back =
+          ext-getD nan (table (valueOf b h) (cellsOf h)) values (length-table (valueOf b h) (cellsOf h) ∙ sym (w .cells))
+          (λ i a. let c : i < cellsOf h = omega (arith, length-table (valueOf b h) (cellsOf h)) in getD-table (valueOf b h) (cellsOf h) i nan c ∙ value-back h values codes w i c);
+      codes-back =
+          ext-getD 0 (table (codeOf b h) (h .rows)) codes (length-table (codeOf b h) (h .rows) ∙ sym (w .rows))
+          (λ i a. let c : i < h .rows = omega (arith, length-table (codeOf b h) (h .rows)) in getD-table (codeOf b h) (h .rows) i 0 c ∙ code-back h values codes w i c);
+    }

@@ -1,0 +1,6 @@
+pub mod Bytes
+pub mod Reasons
+pub mod Read
+pub mod Laws
+pub mod Encode
+pub mod Table

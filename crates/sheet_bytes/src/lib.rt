@@ -1,0 +1,419 @@
+// A sheet's bytes, read into lent memory. Everything is checked before anything is written.
+use sheet::LABEL_HIGH;
+use sheet::MOST_COLUMNS;
+use sheet::MOST_ERROR;
+use sheet::MOST_LABELS;
+use sheet::MOST_ROWS;
+use sheet::MOST_SUPPORT;
+use sheet::SCRATCH_SHORT;
+use sheet::SIZE_OUTSIDE;
+use sheet::TERM_ABOVE;
+use sheet::VALUE_OUTSIDE;
+ghost use mathlib.Core.Path.{_≡_};
+ghost use Prim.Native.Nat.{ℕ, suc, _+_, _*_, _%_, _/_, _^_, _≤_, _<_};
+ghost use lib.ListN.{length};
+ghost use lib.Seq.{sets};
+ghost use lib.Ieee.{binary64, ofBits};
+ghost use Rattle.basics.specs.Walk.{walk};
+ghost use Rattle.threshold.specs.Threshold.{within};
+ghost use Rattle.sheet_bytes.specs.Bytes.{byteAt, numberAt, marked};
+ghost use Rattle.sheet_bytes.specs.Read.{headOf, startOf, codeOf, cellsOf, cellAt, bitsOf, valueOf, valuesOf, codesOf, headBad, outside, sizeBad, tooLarge, rowBad, further, termsBad, valueBad, codeBad, fromTerms, readOf, Small, Valued, answerOf, valuesIn, codesIn};
+
+// The numbers of the header.
+pub struct Head {
+    pub rows: usize,
+    pub columns: usize,
+    pub labels: usize,
+    pub support: u32,
+    pub gap: u32,
+    pub error: u32,
+    pub bound: u32,
+}
+
+pub enum Read {
+    Refused { number: u32, place: usize },
+    Sheet { head: Head },
+}
+
+const HEAD_SIZE: usize = 20;
+
+const ROW_FIXED: usize = 3;
+
+const CODE_PLACE: usize = 2;
+
+const VALUE_SIZE: usize = 8;
+
+// The most rows and values that a sheet may have here, and so the least that is lent.
+pub const MOST_READ: usize = 2048;
+
+pub const MOST_CELLS: usize = 8192;
+
+const HEAD_WRONG: u32 = 20;
+
+const SHEET_LARGE: u32 = 21;
+
+const ROW_WRONG: u32 = 22;
+
+const BYTES_LEFT: u32 = 23;
+
+// An infinity's bits without its sign: those above are a NaN's.
+const INFINITE: u64 = 0x7FF0_0000_0000_0000;
+
+const SIGN: u64 = 0x8000_0000_0000_0000;
+
+fn byte_at(bytes: &[u8], at: usize) -> u64
+    ensures value { λ r. ⌜ r ≡ byteAt (now (bytes .entry)) at ⌝ }
+    ensures byte { λ r. ⌜ r < 256 ⌝ }
+{
+    if at < bytes.len() {
+        bytes[at] as u64
+    } else {
+        0
+    }
+}
+
+fn pair_at(bytes: &[u8], at: usize) -> u64
+    requires { ⌜ at < 2 ^ 32 ⌝ }
+    ensures value { λ r. ⌜ r ≡ numberAt 2 (now (bytes .entry)) at ⌝ }
+    ensures wide { λ r. ⌜ r < 2 ^ 16 ⌝ }
+{
+    let low = byte_at(bytes, at);
+    let high = byte_at(bytes, at + 1);
+    low + 256 * high
+}
+
+fn quad_at(bytes: &[u8], at: usize) -> u64
+    requires { ⌜ at < 2 ^ 31 ⌝ }
+    ensures value { λ r. ⌜ r ≡ numberAt 4 (now (bytes .entry)) at ⌝ }
+    ensures wide { λ r. ⌜ r < 2 ^ 32 ⌝ }
+{
+    let low = pair_at(bytes, at);
+    let high = pair_at(bytes, at + 2);
+    low + 65536 * high
+}
+
+fn bits_at(bytes: &[u8], at: usize) -> u64
+    requires { ⌜ at < 2 ^ 30 ⌝ }
+    ensures { λ r. ⌜ r ≡ numberAt 8 (now (bytes .entry)) at ⌝ }
+{
+    let low = quad_at(bytes, at);
+    let high = quad_at(bytes, at + 4);
+    low + 4294967296 * high
+}
+
+fn is_marked(bytes: &[u8], at: usize, first: u8, second: u8) -> bool
+    requires { ⌜ at < 2 ^ 32 ⌝ }
+    ensures { λ r. ⌜ r ≡ marked (record { first = first; second = second }) (now (bytes .entry)) at ⌝ }
+{
+    if byte_at(bytes, at) == first as u64 {
+        byte_at(bytes, at + 1) == second as u64
+    } else {
+        false
+    }
+}
+
+fn head_of(bytes: &[u8]) -> Head
+    ensures { λ r. ⌜ r ≡ headOf (now (bytes .entry)) ⌝ }
+{
+    Head {
+        rows: pair_at(bytes, 2) as usize,
+        columns: byte_at(bytes, 4) as usize,
+        labels: byte_at(bytes, 5) as usize,
+        support: pair_at(bytes, 6) as u32,
+        gap: quad_at(bytes, 8) as u32,
+        error: quad_at(bytes, 12) as u32,
+        bound: quad_at(bytes, 16) as u32,
+    }
+}
+
+fn head_bad(bytes: &[u8]) -> bool
+    ensures { λ r. ⌜ r ≡ headBad (now (bytes .entry)) ⌝ }
+{
+    if bytes.len() < HEAD_SIZE {
+        true
+    } else {
+        !is_marked(bytes, 0, b'H', b'D')
+    }
+}
+
+fn is_outside(most: usize, n: usize) -> bool
+    ensures { λ r. ⌜ r ≡ outside most n ⌝ }
+{
+    if n < 1 { true } else { most < n }
+}
+
+fn size_bad(head: Head) -> bool
+    ensures { λ r. ⌜ r ≡ sizeBad head ⌝ }
+{
+    if is_outside(MOST_ROWS, head.rows) {
+        true
+    } else if is_outside(MOST_COLUMNS, head.columns) {
+        true
+    } else {
+        is_outside(MOST_LABELS, head.labels)
+    }
+}
+
+fn too_large(head: Head) -> bool
+    requires { ⌜ head .columns ≤ 16 ⌝ }
+    ensures { λ r. ⌜ r ≡ tooLarge head ⌝ }
+{
+    if MOST_READ < head.rows {
+        true
+    } else {
+        MOST_CELLS < head.columns * head.rows
+    }
+}
+
+fn terms_bad(head: Head) -> bool
+    ensures { λ r. ⌜ r ≡ termsBad head ⌝ }
+{
+    if MOST_SUPPORT < head.support {
+        true
+    } else if MOST_ERROR < head.gap {
+        true
+    } else if MOST_ERROR < head.error {
+        true
+    } else {
+        MOST_ERROR < head.bound
+    }
+}
+
+fn start_of(columns: usize, row: usize) -> usize
+    requires { ⌜ (columns ≤ 16) × (row ≤ 2048) ⌝ }
+    ensures place { λ r. ⌜ r ≡ startOf columns row ⌝ }
+    ensures low { λ r. ⌜ r ≤ 268308 ⌝ }
+{
+    HEAD_SIZE + row * (ROW_FIXED + VALUE_SIZE * columns)
+}
+
+fn row_bad(bytes: &[u8], head: Head, row: usize) -> bool
+    requires { ⌜ Small head × (row < head .rows) ⌝ }
+    ensures { λ r. ⌜ r ≡ rowBad (now (bytes .entry)) head row ⌝ }
+{
+    if bytes.len() < start_of(head.columns, row + 1) {
+        true
+    } else {
+        !is_marked(bytes, start_of(head.columns, row), b'R', b'W')
+    }
+}
+
+// The first row that is short or mismarked; the number of rows if there is none.
+fn first_bad_row(bytes: &[u8], head: Head) -> usize
+    requires { ⌜ Small head ⌝ }
+    ensures { λ r. ⌜ r ≡ walk (rowBad (now (bytes .entry)) head) (head .rows) 0 ⌝ }
+{
+    let mut row: usize = 0;
+    while row < head.rows {
+        if row_bad(bytes, head, row) {
+            return row;
+        }
+        row += 1;
+    }
+    row
+}
+
+fn has_further(bytes: &[u8], head: Head) -> bool
+    requires { ⌜ Small head ⌝ }
+    ensures { λ r. ⌜ r ≡ further (now (bytes .entry)) head ⌝ }
+{
+    start_of(head.columns, head.rows) < bytes.len()
+}
+
+// Where the bits of a value stand.
+fn cell_at(head: Head, index: usize) -> usize
+    requires { ⌜ Small head × (index < cellsOf head) ⌝ }
+    ensures place { λ r. ⌜ r ≡ cellAt head index ⌝ }
+    ensures low { λ r. ⌜ r < 2 ^ 30 ⌝ }
+{
+    let row = index % head.rows;
+    let column = index / head.rows;
+    start_of(head.columns, row) + ROW_FIXED + VALUE_SIZE * column
+}
+
+// A NaN is refused by its bits: no float is made of it.
+fn bits_within(bits: u64) -> bool
+    ensures { λ r. ⌜ r ≡ within (ofBits binary64 bits) ⌝ }
+{
+    if INFINITE < bits % SIGN {
+        false
+    } else {
+        threshold::in_range(f64::from_bits(bits))
+    }
+}
+
+fn value_bad(bytes: &[u8], head: Head, index: usize) -> bool
+    requires { ⌜ Small head × (index < cellsOf head) ⌝ }
+    ensures { λ r. ⌜ r ≡ valueBad (now (bytes .entry)) head index ⌝ }
+{
+    !bits_within(bits_at(bytes, cell_at(head, index)))
+}
+
+// The index of the first value that is not finite or too large; the number of values if there is none.
+fn first_bad_value(bytes: &[u8], head: Head) -> usize
+    requires { ⌜ Small head ⌝ }
+    ensures { λ r. ⌜ r ≡ walk (valueBad (now (bytes .entry)) head) (cellsOf head) 0 ⌝ }
+{
+    let cells = head.columns * head.rows;
+    let mut index: usize = 0;
+    while index < cells {
+        if value_bad(bytes, head, index) {
+            return index;
+        }
+        index += 1;
+    }
+    index
+}
+
+fn code_at(bytes: &[u8], head: Head, row: usize) -> u8
+    requires { ⌜ Small head × (row < head .rows) ⌝ }
+    ensures { λ r. ⌜ r ≡ codeOf (now (bytes .entry)) head row ⌝ }
+{
+    byte_at(bytes, start_of(head.columns, row) + CODE_PLACE) as u8
+}
+
+fn code_bad(bytes: &[u8], head: Head, row: usize) -> bool
+    requires { ⌜ Small head × (row < head .rows) ⌝ }
+    ensures { λ r. ⌜ r ≡ codeBad (now (bytes .entry)) head row ⌝ }
+{
+    head.labels <= code_at(bytes, head, row) as usize
+}
+
+// The first row whose label code is too high; the number of rows if there is none.
+fn first_bad_code(bytes: &[u8], head: Head) -> usize
+    requires { ⌜ Small head ⌝ }
+    ensures { λ r. ⌜ r ≡ walk (codeBad (now (bytes .entry)) head) (head .rows) 0 ⌝ }
+{
+    let mut row: usize = 0;
+    while row < head.rows {
+        if code_bad(bytes, head, row) {
+            return row;
+        }
+        row += 1;
+    }
+    row
+}
+
+// Reasons 4, 5 and 6.
+fn check_cells(bytes: &[u8], head: Head) -> Read
+    requires { ⌜ Small head ⌝ }
+    ensures { λ r. ⌜ r ≡ fromTerms (now (bytes .entry)) head ⌝ }
+{
+    if terms_bad(head) {
+        return Read::Refused {
+            number: TERM_ABOVE,
+            place: 0,
+        };
+    }
+    let index = first_bad_value(bytes, head);
+    if index < head.columns * head.rows {
+        return Read::Refused {
+            number: VALUE_OUTSIDE,
+            place: index,
+        };
+    }
+    let row = first_bad_code(bytes, head);
+    if row < head.rows {
+        return Read::Refused {
+            number: LABEL_HIGH,
+            place: row,
+        };
+    }
+    Read::Sheet { head: head }
+}
+
+// All reasons, in document 01's order.
+fn check_sheet(bytes: &[u8]) -> Read
+    ensures { λ r. ⌜ r ≡ readOf (now (bytes .entry)) ⌝ }
+{
+    if head_bad(bytes) {
+        return Read::Refused {
+            number: HEAD_WRONG,
+            place: 0,
+        };
+    }
+    let head = head_of(bytes);
+    if size_bad(head) {
+        return Read::Refused {
+            number: SIZE_OUTSIDE,
+            place: 0,
+        };
+    }
+    if too_large(head) {
+        return Read::Refused {
+            number: SHEET_LARGE,
+            place: 0,
+        };
+    }
+    let row = first_bad_row(bytes, head);
+    if row < head.rows {
+        return Read::Refused {
+            number: ROW_WRONG,
+            place: row,
+        };
+    }
+    if has_further(bytes, head) {
+        return Read::Refused {
+            number: BYTES_LEFT,
+            place: 0,
+        };
+    }
+    check_cells(bytes, head)
+}
+
+fn fill_values(bytes: &[u8], head: Head, values: &mut [f64])
+    requires { ⌜ Small head × (cellsOf head ≤ length (now values)) × Valued (now bytes) head ⌝ }
+    ensures { λ _. ⌜ now (values .exit) ≡ sets (now (values .entry)) 0 (valuesOf (now (bytes .entry)) head) ⌝ }
+{
+    let cells = head.columns * head.rows;
+    let mut index: usize = 0;
+    while index < cells {
+        let bits = bits_at(bytes, cell_at(head, index));
+        values[index] = f64::from_bits(bits);
+        index += 1;
+    }
+}
+
+fn fill_codes(bytes: &[u8], head: Head, codes: &mut [u8])
+    requires { ⌜ Small head × (head .rows ≤ length (now codes)) ⌝ }
+    ensures { λ _. ⌜ now (codes .exit) ≡ sets (now (codes .entry)) 0 (codesOf (now (bytes .entry)) head) ⌝ }
+{
+    let mut row: usize = 0;
+    while row < head.rows {
+        codes[row] = code_at(bytes, head, row);
+        row += 1;
+    }
+}
+
+// The header's numbers, with the values and the label codes at the start of the lent memory; or why the bytes are refused, and then nothing
+// is written. The memory must hold the largest sheet, whatever the sheet.
+pub fn read_sheet(bytes: &[u8], values: &mut [f64], codes: &mut [u8]) -> Read
+    ensures answer { λ r. ⌜ r ≡ answerOf (now (bytes .entry)) (length (now (values .entry))) (length (now (codes .entry))) ⌝ }
+    ensures stored { λ r. ⌜ now (values .exit) ≡ valuesIn r (now (bytes .entry)) (now (values .entry)) ⌝ }
+    ensures coded { λ r. ⌜ now (codes .exit) ≡ codesIn r (now (bytes .entry)) (now (codes .entry)) ⌝ }
+{
+    if values.len() < MOST_CELLS {
+        return Read::Refused {
+            number: SCRATCH_SHORT,
+            place: 0,
+        };
+    }
+    if codes.len() < MOST_READ {
+        return Read::Refused {
+            number: SCRATCH_SHORT,
+            place: 0,
+        };
+    }
+    let read = check_sheet(bytes);
+    match read {
+        Read::Refused { number, place } => Read::Refused {
+            number: number,
+            place: place,
+        },
+        Read::Sheet { head } => {
+            fill_values(bytes, head, values);
+            fill_codes(bytes, head, codes);
+            Read::Sheet { head: head }
+        }
+    }
+}
