@@ -1,0 +1,3 @@
+-- Laws of the answer's words and of the call's numbers.
+pub mod Telling
+pub mod Calling
