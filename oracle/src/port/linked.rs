@@ -1,0 +1,252 @@
+//! The proved library's C functions, and what they owe of the words that they are lent.
+#[cfg(feature = "search")]
+use crate::answer::{Answer, Side, Tree};
+use crate::port::Turned;
+use crate::sheet::Sheet;
+#[cfg(any(feature = "search", feature = "check"))]
+use crate::sheet::SCRATCH_PER_ROW;
+
+#[cfg(feature = "search")]
+const WORDS: usize = 19;
+#[cfg(feature = "search")]
+const SIDE_WORDS: usize = 7;
+/// The words that the check and the preparer answer.
+const TURNED_WORDS: usize = 3;
+/// What scratch holds before a call: a call that leaves a word alone leaves this.
+const FILL: u32 = 0xA5A5_5A5A;
+const PAST: usize = 5;
+/// The highest reason after which scratch is untouched.
+const UNTOUCHED: u8 = 4;
+
+extern "C" {
+    #[cfg(feature = "search")]
+    fn finder_search(
+        numbers: *const u32,
+        numbers_length: usize,
+        values: *const f64,
+        values_length: usize,
+        labels: *const u8,
+        labels_length: usize,
+        order: *const u16,
+        order_length: usize,
+        cuts: *const u16,
+        cuts_length: usize,
+        counts: *const u16,
+        counts_length: usize,
+        scratch: *mut u32,
+        scratch_length: usize,
+        answer: *mut u64,
+        answer_length: usize,
+    );
+    #[cfg(feature = "check")]
+    fn finder_check(
+        numbers: *const u32,
+        numbers_length: usize,
+        values: *const f64,
+        values_length: usize,
+        labels: *const u8,
+        labels_length: usize,
+        order: *const u16,
+        order_length: usize,
+        cuts: *const u16,
+        cuts_length: usize,
+        counts: *const u16,
+        counts_length: usize,
+        scratch: *mut u32,
+        scratch_length: usize,
+        answer: *mut u64,
+        answer_length: usize,
+    );
+    #[cfg(feature = "prepare")]
+    fn finder_prepare(
+        numbers: *const u32,
+        numbers_length: usize,
+        values: *const f64,
+        values_length: usize,
+        order: *mut u16,
+        order_length: usize,
+        cuts: *mut u16,
+        cuts_length: usize,
+        counts: *mut u16,
+        counts_length: usize,
+        answer: *mut u64,
+        answer_length: usize,
+    );
+}
+
+fn numbers(sheet: &Sheet) -> [u32; 7] {
+    let n = sheet.numbers;
+    [n.rows, n.columns, n.labels, n.support, n.gap, n.error, n.bound].map(|number| number as u32)
+}
+
+#[cfg(feature = "search")]
+pub fn call(sheet: &Sheet, scratch: &mut [u32]) -> [u64; WORDS] {
+    let numbers = numbers(sheet);
+    let mut answer = [0; WORDS];
+    // SAFETY: each pointer goes with the length of the slice that it comes from, and no two of the slices overlap.
+    unsafe {
+        finder_search(
+            numbers.as_ptr(),
+            numbers.len(),
+            sheet.values.as_ptr(),
+            sheet.values.len(),
+            sheet.codes.as_ptr(),
+            sheet.codes.len(),
+            sheet.order.as_ptr(),
+            sheet.order.len(),
+            sheet.cuts.as_ptr(),
+            sheet.cuts.len(),
+            sheet.counts.as_ptr(),
+            sheet.counts.len(),
+            scratch.as_mut_ptr(),
+            scratch.len(),
+            answer.as_mut_ptr(),
+            answer.len(),
+        );
+    }
+    answer
+}
+
+#[cfg(feature = "search")]
+pub fn search(sheet: &Sheet, words: usize) -> Result<Answer, String> {
+    let mut scratch = vec![FILL; words + PAST];
+    let answer = answer(&call(sheet, &mut scratch[..words]))?;
+    let number = match answer {
+        Answer::TurnedBack { number, .. } => Some(number),
+        _ => None,
+    };
+    owed(&scratch, sheet, number)?;
+    Ok(answer)
+}
+
+/// "After search reasons 1 to 4 scratch is untouched; after every other search call the first 8·rows words are 0 and the rest untouched."
+#[cfg(any(feature = "search", feature = "check"))]
+fn owed(scratch: &[u32], sheet: &Sheet, number: Option<u8>) -> Result<(), String> {
+    let untouched = number.is_some_and(|number| number <= UNTOUCHED);
+    let cleared = if untouched { 0 } else { SCRATCH_PER_ROW * sheet.numbers.rows };
+    let owed = |at: usize| if at < cleared { 0 } else { FILL };
+    match (0..scratch.len()).find(|&at| scratch[at] != owed(at)) {
+        None => Ok(()),
+        Some(at) => Err(format!("scratch word {at} is {:08X}, not {:08X}", scratch[at], owed(at))),
+    }
+}
+
+/// What the words of the check or of the preparer say.
+fn turned(words: &[u64; TURNED_WORDS]) -> Turned {
+    match *words {
+        [1, 0, 0] => Ok(None),
+        [0, number, place] => Ok(Some((number as u8, place as usize))),
+        _ => Err(format!("no answer {words:?}")),
+    }
+}
+
+#[cfg(feature = "check")]
+pub fn check(sheet: &Sheet, words: usize) -> Turned {
+    let mut scratch = vec![FILL; words + PAST];
+    let numbers = numbers(sheet);
+    let mut answer = [u64::MAX; TURNED_WORDS];
+    // SAFETY: each pointer goes with the length of the slice that it comes from, and no two of the slices overlap.
+    unsafe {
+        finder_check(
+            numbers.as_ptr(),
+            numbers.len(),
+            sheet.values.as_ptr(),
+            sheet.values.len(),
+            sheet.codes.as_ptr(),
+            sheet.codes.len(),
+            sheet.order.as_ptr(),
+            sheet.order.len(),
+            sheet.cuts.as_ptr(),
+            sheet.cuts.len(),
+            sheet.counts.as_ptr(),
+            sheet.counts.len(),
+            scratch.as_mut_ptr(),
+            words,
+            answer.as_mut_ptr(),
+            answer.len(),
+        );
+    }
+    let turned = turned(&answer)?;
+    owed(&scratch, sheet, turned.map(|(number, _)| number))?;
+    Ok(turned)
+}
+
+/// The lists that the preparer fills, as long as a sheet's.
+#[cfg(feature = "prepare")]
+pub struct Lists {
+    order: Vec<u16>,
+    cuts: Vec<u16>,
+    counts: Vec<u16>,
+}
+
+#[cfg(feature = "prepare")]
+impl Lists {
+    pub fn filled(sheet: &Sheet) -> Lists {
+        let list = |length: usize| vec![FILL as u16; length];
+        Lists { order: list(sheet.order.len()), cuts: list(sheet.cuts.len()), counts: list(sheet.counts.len()) }
+    }
+}
+
+#[cfg(feature = "prepare")]
+pub fn call_prepare(sheet: &Sheet, lists: &mut Lists) -> [u64; TURNED_WORDS] {
+    let numbers = &numbers(sheet)[..2];
+    let mut answer = [u64::MAX; TURNED_WORDS];
+    // SAFETY: each pointer goes with the length of the slice that it comes from, and no two of the slices overlap.
+    unsafe {
+        finder_prepare(
+            numbers.as_ptr(),
+            numbers.len(),
+            sheet.values.as_ptr(),
+            sheet.values.len(),
+            lists.order.as_mut_ptr(),
+            lists.order.len(),
+            lists.cuts.as_mut_ptr(),
+            lists.cuts.len(),
+            lists.counts.as_mut_ptr(),
+            lists.counts.len(),
+            answer.as_mut_ptr(),
+            answer.len(),
+        );
+    }
+    answer
+}
+
+/// "A turned-back preparer writes nothing."
+#[cfg(feature = "prepare")]
+pub fn prepare(sheet: &Sheet, wanted: Option<&Sheet>) -> Turned {
+    let mut lists = Lists::filled(sheet);
+    let turned = turned(&call_prepare(sheet, &mut lists))?;
+    let before = Lists::filled(sheet);
+    let owed = match wanted {
+        Some(wanted) => [&wanted.order, &wanted.cuts, &wanted.counts],
+        None => [&before.order, &before.cuts, &before.counts],
+    };
+    match [&lists.order, &lists.cuts, &lists.counts] == owed {
+        true => Ok(turned),
+        false => Err("the preparer's lists are not as owed".to_string()),
+    }
+}
+
+#[cfg(feature = "search")]
+fn answer(words: &[u64; WORDS]) -> Result<Answer, String> {
+    let number = |at: usize| words[at] as usize;
+    match words[0] {
+        0 => Ok(Answer::TurnedBack { number: words[1] as u8, place: number(2) }),
+        1 => Ok(Answer::Kept { error: number(1), tried: number(2) }),
+        2 => {
+            let sides = [side(&words[5..5 + SIDE_WORDS])?, side(&words[5 + SIDE_WORDS..])?];
+            Ok(Answer::Found { error: number(1), tried: number(2), tree: Tree { column: number(3), threshold: words[4], sides } })
+        }
+        kind => Err(format!("no answer of kind {kind}")),
+    }
+}
+
+#[cfg(feature = "search")]
+fn side(words: &[u64]) -> Result<Side, String> {
+    let number = |at: usize| words[at] as usize;
+    match words[0] {
+        0 => Ok(Side::Leaf { label: number(1), error: number(2) }),
+        1 => Ok(Side::Split { column: number(1), threshold: words[2], labels: [number(3), number(4)], errors: [number(5), number(6)] }),
+        kind => Err(format!("no side of kind {kind}")),
+    }
+}
