@@ -13,12 +13,12 @@ use borrow.Rule.Slice.PartMut.{putMid, midOf}
 use Rattle.basics.specs.Choice.{pick}
 use Rattle.basics.specs.Lists.{those}
 use Rattle.basics.proofs.Choice.{by-test, pick-true, pick-false}
-use Rattle.prepare.specs.Sorting.{rowsFrom}
+use Rattle.row_sort.specs.Sorting.{rowsFrom}
 use Rattle.prepare.specs.Prepared.{isCut, cutsAlong, padded}
 use Rattle.prepare.specs.Steps.{Ordering}
-use Rattle.prepare.proofs.Filling.{all-at}
-use Rattle.prepare.proofs.Rows.{rows-append}
-use Rattle.prepare.proofs.Parts.{put-tail, length-tail}
+use Rattle.row_sort.proofs.Filling.{all-at}
+use Rattle.row_sort.proofs.Rows.{rows-append}
+use Rattle.row_sort.proofs.Parts.{put-tail, length-tail}
 
 pub those-append : (p : ℕ → Bool) (xs ys : List ℕ) → those p (xs ++ ys) ≡ those p xs ++ those p ys
 those-append p [] ys = refl

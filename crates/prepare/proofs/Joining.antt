@@ -12,10 +12,10 @@ use lib.Ieee.{Float, nan}
 use borrow.Rule.Slice.PartMut.{midOf, putMid, post-is, same-len-mid}
 use Rattle.basics.proofs.Choice.{reach}
 use Rattle.basics.proofs.Lists.{length-those, tally-le}
-use Rattle.prepare.specs.Sorting.{rowsFrom}
+use Rattle.row_sort.specs.Sorting.{rowsFrom}
 use Rattle.prepare.specs.Prepared.{columnOf, orderOf, isCut, cutsAlong, placesOf, countOf, padded, cutsOf, joined, orderList, cutList, countList}
 use Rattle.prepare.specs.Steps.{Column, Columns}
-use Rattle.prepare.proofs.Rows.{length-rows}
+use Rattle.row_sort.proofs.Rows.{length-rows}
 use Rattle.prepare.proofs.Columns.{order-length}
 
 -- ---- lengths

@@ -9,9 +9,9 @@ use lib.Dec.{T}
 use Rattle.basics.specs.Lists.{All, those}
 use Rattle.basics.proofs.Choice.{by-test, pick-true, reach, bit-false}
 use Rattle.basics.proofs.Lists.{all-map, all-those, length-those, tally-le}
-use Rattle.prepare.specs.Sorting.{rowsFrom}
-use Rattle.prepare.proofs.Filling.{all-at}
-use Rattle.prepare.proofs.Rows.{Within, all-rows, length-rows}
+use Rattle.row_sort.specs.Sorting.{rowsFrom}
+use Rattle.row_sort.proofs.Filling.{all-at}
+use Rattle.row_sort.proofs.Rows.{Within, all-rows, length-rows}
 
 -- each is below all that follow it
 abbrev Rising : List ℕ → Type 0

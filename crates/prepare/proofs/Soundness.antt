@@ -20,13 +20,13 @@ use Rattle.threshold.proofs.Law.{within-finite}
 use Rattle.sheet.specs.Sheet.{Sheet, valueOf, rowAt, valueAt, placeOf}
 use Rattle.sheet.specs.Sheet as sheet
 use Rattle.sheet.specs.Sound.{Cuts, Column}
-use Rattle.prepare.specs.Sorting.{rowsFrom}
+use Rattle.row_sort.specs.Sorting.{rowsFrom}
 use Rattle.prepare.specs.declared.Prepared.{Prepared}
 use Rattle.prepare.specs.Prepared.{columnOf, orderOf, isCut, cutsAlong, placesOf, countOf, padded, cutsOf, orderList, cutList, countList, leaves}
-use Rattle.prepare.specs.Steps.{keyIn, Upto, Ascending, Comparable}
+use Rattle.row_sort.specs.Steps.{keyIn, Upto, Ascending, Comparable}
 use Rattle.prepare.specs.Laws.{preparedSheet, Taken, SoundColumns, SoundSheet, Determined}
-use Rattle.prepare.proofs.Sorting.{ascending-sorted}
-use Rattle.prepare.proofs.Filling.{all-at}
+use Rattle.row_sort.proofs.Sorting.{ascending-sorted}
+use Rattle.row_sort.proofs.Filling.{all-at}
 use Rattle.prepare.proofs.Columns.{order-keys, order-rows, order-length}
 use Rattle.prepare.proofs.Cutting.{no-cut}
 use Rattle.prepare.proofs.Joining.{cuts-length, getD-joined}

@@ -1,4 +1,3 @@
-pub mod Sorting
 pub mod Prepared
 pub mod Steps
 pub mod Laws

@@ -13,7 +13,7 @@ use Rattle.basics.specs.Walk.{walk}
 use Rattle.threshold.specs.Threshold.{within}
 use Rattle.sheet.specs.Limits.{mostRows, mostColumns}
 use Rattle.sheet.specs.Reasons.{sizeOutside, lengthWrong, scratchShort, valueOutside}
-use Rattle.prepare.specs.Sorting.{rowsFrom, sorted}
+use Rattle.row_sort.specs.Sorting.{rowsFrom, sorted}
 use Rattle.prepare.specs.declared.Prepared.{Prepared}
 use Rattle.prepare.specs.declared.Prepared.the-variants.{Done, Refused}
 
