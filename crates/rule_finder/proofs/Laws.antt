@@ -1,0 +1,75 @@
+-- What is refused is what the reader refuses; every other answer carries the certificate. Assumes nothing.
+use mathlib.Core.Path.{_≡_, refl, sym, ap, _∙_}
+use Prim.Native.Nat.{ℕ}
+use native.Mathlib.Omega.{arith}
+use mathlib.Core.Option.{Option, none, some}
+use mathlib.Core.List.{List}
+use Rattle.sheet.specs.Sheet.{Sheet}
+use Rattle.sheet.specs.declared.Terms.{Terms}
+use Rattle.sheet.specs.declared.Checked.the-variants.{Accepted}
+use Rattle.sheet.specs.Check.{checkOf}
+use Rattle.tree.specs.declared.Answer.the-variants.{TurnedBack}
+use Rattle.tree.specs.Answer.{turnedBack}
+use Rattle.depth2.specs.Search.{answerOf, answerAfter, searchOf, searched, Progress}
+use Rattle.certificate.proofs.Sentences.{certified}
+use Rattle.sheet_bytes.specs.declared.Head.{Head}
+use Rattle.sheet_bytes.specs.declared.Read.{Read}
+use Rattle.sheet_bytes.specs.declared.Read.the-variants as read
+use Rattle.sheet_bytes.specs.Read.{readOf}
+use Rattle.sheet_bytes.proofs.Stages as stages
+use Rattle.rule_finder.specs.Run.{termsOf, wordsLent, sheetRead, answerTo, runOf}
+use Rattle.rule_finder.specs.Laws.{NeverTurnedBack, RefusedExactly, EverySigned, OutcomesCoincide}
+use Rattle.rule_finder.proofs.Reading.{doubles, accepted}
+
+-- ---- the answer, by what the reader says
+
+pub refused : (bytes : List ℕ) (number place : ℕ) → readOf bytes ≡ read.Refused number place → runOf bytes ≡ TurnedBack number place
+unfolding runOf answerTo
+refused bytes number place e = ap (answerTo bytes) e
+
+pub searched-of : (bytes : List ℕ) (h : Head) → readOf bytes ≡ read.Sheet h → runOf bytes ≡ searchOf (sheetRead bytes h) (termsOf h) wordsLent
+unfolding runOf answerTo
+searched-of bytes h e = ap (answerTo bytes) e
+
+-- ---- a search that the check accepts turns nothing back
+
+no-reason : (s : Sheet) (t : Terms) (p : Progress) (best : Option (ℕ × ℕ)) → turnedBack (answerOf s t p best) ≡ none
+unfolding answerOf
+no-reason s t p none = refl
+no-reason s t p (some cut) = refl
+
+not-back : (s : Sheet) (t : Terms) (words : ℕ) → checkOf s t words ≡ Accepted → turnedBack (searchOf s t words) ≡ none
+unfolding searchOf answerAfter
+not-back s t words e = ap (λ x. turnedBack (answerAfter s t x)) e ∙ no-reason s t (searched s t) (searched s t .best)
+
+pub never-turned-back : NeverTurnedBack
+never-turned-back bytes h e =
+    ap turnedBack (searched-of bytes h e) ∙ not-back (sheetRead bytes h) (termsOf h) wordsLent (accepted bytes h (stages.accepted bytes h e))
+
+-- ---- what is refused is what the reader refuses
+
+only : (bytes : List ℕ) (number place : ℕ) (r : Read) → readOf bytes ≡ r → runOf bytes ≡ TurnedBack number place → r ≡ read.Refused number place
+only bytes number place (read.Refused n p) e f =
+    let same : TurnedBack n p ≡ TurnedBack number place = sym (refused bytes n p e) ∙ f in cc
+only bytes number place (read.Sheet h) e f = absurd (never (ap turnedBack (sym f) ∙ never-turned-back bytes h e))
+  where
+    never : _≡_ {A = Option (ℕ × ℕ)} (some (number, place)) none → ⊥
+    never g = let z : _≡_ {A = ℕ} 0 1 = cc in omega arith
+
+pub refused-exactly : RefusedExactly
+refused-exactly bytes number place = record { told = refused bytes number place; only = only bytes number place (readOf bytes) refl }
+
+-- ---- the certificate
+
+pub every-signed : EverySigned
+every-signed bytes h e =
+    let a = stages.accepted bytes h e in
+    record {
+      accepted = accepted bytes h a;
+      certified = certified (sheetRead bytes h) (termsOf h) wordsLent (doubles bytes h a) (runOf bytes) (searched-of bytes h e);
+    }
+
+-- ---- the outcome
+
+pub outcomes-coincide : OutcomesCoincide
+outcomes-coincide bytes out m n after other a b = (a .length ∙ sym (b .length), a .text ∙ sym (b .text))

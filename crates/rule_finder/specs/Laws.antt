@@ -1,0 +1,45 @@
+-- What holds of the finder's answers, as statements; `proofs/` proves each.
+use mathlib.Core.Path.{_≡_}
+use Prim.Native.Nat.{ℕ}
+use mathlib.Core.Option.{none}
+use mathlib.Core.List.{List}
+use Rattle.sheet.specs.declared.Checked.the-variants.{Accepted}
+use Rattle.sheet.specs.Check.{checkOf}
+use Rattle.tree.specs.declared.Answer.the-variants.{TurnedBack}
+use Rattle.tree.specs.Answer.{turnedBack}
+use Rattle.listing.specs.Listing.{writtenOf, outOf}
+use Rattle.certificate.specs.Certificate.{Certified}
+use Rattle.sheet_bytes.specs.declared.Head.{Head}
+use Rattle.sheet_bytes.specs.declared.Read.the-variants.{Refused, Sheet}
+use Rattle.sheet_bytes.specs.Read.{readOf}
+use Rattle.rule_finder.specs.Run.{termsOf, wordsLent, sheetRead, runOf}
+
+-- "Order: 20, 1, 21, 22, 23, 4, 5, 6.": these are the reader's, and a sheet that is read is never turned back
+abbrev pub NeverTurnedBack : Type 0
+NeverTurnedBack = (bytes : List ℕ) (h : Head) → readOf bytes ≡ Sheet h → turnedBack (runOf bytes) ≡ none
+
+-- so what is refused is just what the reader refuses, with its number and place
+pub record RefusedIf (bytes : List ℕ) (number place : ℕ) : Type 0 where
+  pub told : readOf bytes ≡ Refused number place → runOf bytes ≡ TurnedBack number place
+  pub only : runOf bytes ≡ TurnedBack number place → readOf bytes ≡ Refused number place
+
+abbrev pub RefusedExactly : Type 0
+RefusedExactly = (bytes : List ℕ) (number place : ℕ) → RefusedIf bytes number place
+
+-- the three sentences of the certificate, of the answer to a sheet that is read: the input check that they ask for accepts it
+pub record Signed (bytes : List ℕ) (h : Head) : Type 0 where
+  pub accepted : checkOf (sheetRead bytes h) (termsOf h) wordsLent ≡ Accepted
+  pub certified : Certified (sheetRead bytes h) (termsOf h) wordsLent (runOf bytes)
+
+abbrev pub EverySigned : Type 0
+EverySigned = (bytes : List ℕ) (h : Head) → readOf bytes ≡ Sheet h → Signed bytes h
+
+-- what the contract of `run` says of an outcome: how many bytes were written, and the memory afterwards
+pub record Outcome (bytes out : List ℕ) (count : ℕ) (after : List ℕ) : Type 0 where
+  pub length : count ≡ writtenOf (runOf bytes) out
+  pub text : after ≡ outOf (runOf bytes) out
+
+-- "show that two outcomes fitting the contract coincide"
+abbrev pub OutcomesCoincide : Type 0
+OutcomesCoincide =
+    (bytes out : List ℕ) (m n : ℕ) (after other : List ℕ) → Outcome bytes out m after → Outcome bytes out n other → (m ≡ n) × (after ≡ other)

@@ -1,0 +1,107 @@
+// The finder as one function: a sheet's bytes in, the text of its answer out.
+ghost use mathlib.Core.Path.{_≡_};
+ghost use lib.ListN.{length};
+ghost use Rattle.prepare.specs.declared.Prepared.the-variants.{Done};
+ghost use Rattle.prepare.specs.Prepared.{answerOf};
+ghost use Rattle.prepare.specs.Laws.{preparedSheet};
+ghost use Rattle.depth2.specs.Search.{searchOf};
+ghost use Rattle.listing.specs.Listing.{writtenOf, outOf};
+ghost use Rattle.rule_finder.specs.Run.{sizeOf, termsOf, wordsLent, runOf, Prepares};
+use sheet::MOST_COLUMNS;
+use sheet::Size;
+use sheet::Terms;
+use sheet_bytes::Head;
+use sheet_bytes::MOST_CELLS;
+use sheet_bytes::MOST_READ;
+use sheet_bytes::Read;
+use tree::Answer;
+
+// Scratch for the largest sheet: eight words for each row.
+const WORDS_LENT: usize = 16384;
+
+fn size_of(head: Head) -> Size
+    ensures { λ r. ⌜ r ≡ sizeOf head ⌝ }
+{
+    Size {
+        rows: head.rows,
+        columns: head.columns,
+        labels: head.labels,
+    }
+}
+
+fn terms_of(head: Head) -> Terms
+    ensures { λ r. ⌜ r ≡ termsOf head ⌝ }
+{
+    Terms {
+        support: head.support,
+        gap: head.gap,
+        error: head.error,
+        bound: head.bound,
+    }
+}
+
+// The preparer's answer is not asked: it turns back no sheet that was read.
+fn prepare_and_search(
+    head: Head,
+    values: &[f64],
+    codes: &[u8],
+    order: &mut [u16],
+    cuts: &mut [u16],
+    counts: &mut [u16],
+    scratch: &mut [u32],
+) -> Answer
+    requires { ⌜ Done ≡ answerOf (head .rows) (head .columns) (now values) (length (now order)) (length (now cuts)) (length (now counts)) ⌝ }
+    ensures { λ r. ⌜ r ≡ searchOf (preparedSheet (head .rows) (head .columns) (head .labels) (now (values .entry)) (now (codes .entry))) (termsOf head) (length (now (scratch .entry))) ⌝ }
+{
+    prepare::prepare(head.rows, head.columns, values, order, cuts, counts);
+    let size = size_of(head);
+    let terms = terms_of(head);
+    certificate::certified_search(size, terms, values, codes, order, cuts, counts, scratch)
+}
+
+// A sheet's answer, with the room that the preparer and the search ask for.
+fn find(head: Head, values: &[f64], codes: &[u8]) -> Answer
+    requires { ⌜ Prepares head (now values) ⌝ }
+    ensures { λ r. ⌜ r ≡ searchOf (preparedSheet (head .rows) (head .columns) (head .labels) (now (values .entry)) (now (codes .entry))) (termsOf head) wordsLent ⌝ }
+{
+    let mut order = [0u16; MOST_CELLS];
+    let mut cuts = [0u16; MOST_CELLS];
+    let mut counts = [0u16; MOST_COLUMNS];
+    let mut scratch = [0u32; WORDS_LENT];
+    let cells = values.len();
+    let columns = head.columns;
+    prepare_and_search(
+        head,
+        values,
+        codes,
+        &mut order[..cells],
+        &mut cuts[..cells],
+        &mut counts[..columns],
+        &mut scratch,
+    )
+}
+
+fn answer_to(bytes: &[u8]) -> Answer
+    ensures { λ r. ⌜ r ≡ runOf (now (bytes .entry)) ⌝ }
+{
+    let mut values = [0.0f64; MOST_CELLS];
+    let mut codes = [0u8; MOST_READ];
+    let read = sheet_bytes::read_sheet(bytes, &mut values, &mut codes);
+    match read {
+        Read::Refused { number, place } => Answer::TurnedBack { number, place },
+        Read::Sheet { head } => {
+            let rows = head.rows;
+            let cells = head.columns * rows;
+            find(head, &values[..cells], &codes[..rows])
+        }
+    }
+}
+
+// The answer to a sheet's bytes, as text at the start of `out`, and its length. Nothing is written where there is no room for every answer.
+pub fn run(bytes: &[u8], out: &mut [u8]) -> usize
+    ensures length { λ r. ⌜ r ≡ writtenOf (runOf (now (bytes .entry))) (now (out .entry)) ⌝ }
+    ensures text { λ r. ⌜ now (out .exit) ≡ outOf (runOf (now (bytes .entry))) (now (out .entry)) ⌝ }
+{
+    let answer = answer_to(bytes);
+    listing::write_answer(answer, out)
+}
