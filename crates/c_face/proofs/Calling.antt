@@ -8,6 +8,7 @@ use lib.Ieee.{Float}
 use Rattle.sheet.specs.declared.Size.{Size}
 use Rattle.sheet.specs.declared.Terms.{Terms}
 use Rattle.sheet.specs.declared.Checked.{Checked}
+use Rattle.sheet.specs.Sheet.{Sheet}
 use Rattle.sheet.specs.Check.{sheetOf, checkOf, scratchAfter}
 use Rattle.prepare.specs.declared.Prepared.{Prepared}
 use Rattle.prepare.specs.Prepared.{answerOf, PreparedOf}
@@ -58,3 +59,11 @@ pub prepared-by : {rows rows′ columns columns′ : ℕ} (values : List Float) 
     → PreparedOf rows′ columns′ values order cuts counts (answerOf rows′ columns′ values (length order) (length cuts) (length counts)) order′ cuts′ counts′
 prepared-by {rows} {rows′} {columns} {columns′} values order cuts counts r order′ cuts′ counts′ e f h =
     settled rows′ columns′ values order cuts counts r order′ cuts′ counts′ (same-prepared values order cuts counts r order′ cuts′ counts′ e f h)
+
+-- whatever is asked of a sheet and its terms
+pub same-asked : {A : Type 0} (f : Sheet → Terms → A) {size size′ : Size} {terms terms′ : Terms} (values : List Float) (codes order cuts counts : List ℕ)
+    → size ≡ size′ → terms ≡ terms′
+    → f (sheetOf size values codes order cuts counts) terms ≡ f (sheetOf size′ values codes order cuts counts) terms′
+same-asked f {size} {size′} {terms} {terms′} values codes order cuts counts e g =
+    ap (λ (z : Size). f (sheetOf z values codes order cuts counts) terms) e
+    ∙ ap (λ (t : Terms). f (sheetOf size′ values codes order cuts counts) t) g

@@ -1,6 +1,6 @@
 -- What the functions for C callers answer: the numbers that a call hands over, and the words that it gets back. Definitions only.
 use Prim.Native.Nat.{ℕ}
-use mathlib.Core.List.{List, _∷_}
+use mathlib.Core.List.{List, [], _∷_, _++_}
 use lib.ListN.{length, getD, drop}
 use lib.Dec.{leb}
 use lib.Ieee.{Float}
@@ -9,6 +9,7 @@ use Rattle.sheet.specs.declared.Size.{Size}
 use Rattle.sheet.specs.declared.Terms.{Terms}
 use Rattle.sheet.specs.declared.Checked.{Checked}
 use Rattle.sheet.specs.declared.Checked.the-variants as checked
+use Rattle.sheet.specs.Sheet.{Sheet}
 use Rattle.sheet.specs.Check.{sheetOf, checkOf}
 use Rattle.prepare.specs.declared.Prepared.{Prepared}
 use Rattle.prepare.specs.declared.Prepared.the-variants as prepared
@@ -16,9 +17,9 @@ use Rattle.prepare.specs.Prepared.{answerOf}
 
 -- ---- the answer's words
 
--- an answer of fewer words is left alone
-abbrev pub answerWords : ℕ
-answerWords = 3
+-- the words stand at the start of the lent answer and the rest stays; an answer too short for them is left alone
+unfoldable pub written : List ℕ → List ℕ → List ℕ
+written words answer = pick (leb (length words) (length answer)) (words ++ drop (length words) answer) answer
 
 -- what the first word says
 abbrev pub turnedBack : ℕ
@@ -27,9 +28,9 @@ turnedBack = 0
 abbrev pub taken : ℕ
 taken = 1
 
--- the first three words are written, the rest stays
-unfoldable pub told : ℕ → ℕ → ℕ → List ℕ → List ℕ
-told kind reason place answer = pick (leb answerWords (length answer)) (kind ∷ reason ∷ place ∷ drop answerWords answer) answer
+-- three words
+abbrev pub told : ℕ → ℕ → ℕ → List ℕ → List ℕ
+told kind reason place answer = written (kind ∷ reason ∷ place ∷ []) answer
 
 -- "Turned back (number, place)", or 1, 0, 0
 unfoldable pub preparedTold : Prepared → List ℕ → List ℕ
@@ -50,6 +51,10 @@ sizeIn numbers = record { rows = getD numbers 0 0; columns = getD numbers 1 0; l
 abbrev pub termsIn : List ℕ → Terms
 termsIn numbers = record { support = getD numbers 3 0; gap = getD numbers 4 0; error = getD numbers 5 0; bound = getD numbers 6 0 }
 
+-- the sheet that a call hands over
+abbrev pub sheetIn : List ℕ → List Float → List ℕ → List ℕ → List ℕ → List ℕ → Sheet
+sheetIn numbers values codes order cuts counts = sheetOf (sizeIn numbers) values codes order cuts counts
+
 -- ---- what the calls answer
 
 -- the preparer, for rows and columns, and lent lists of these lengths
@@ -60,4 +65,4 @@ prepareAnswer numbers values order cuts counts =
 -- the input check, with a scratch of that many words
 abbrev pub checkAnswer : List ℕ → List Float → List ℕ → List ℕ → List ℕ → List ℕ → ℕ → Checked
 checkAnswer numbers values codes order cuts counts words =
-    checkOf (sheetOf (sizeIn numbers) values codes order cuts counts) (termsIn numbers) words
+    checkOf (sheetIn numbers values codes order cuts counts) (termsIn numbers) words

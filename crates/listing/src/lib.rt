@@ -92,7 +92,8 @@ fn put_field(out: &mut [u8], at: usize, word: &[u8], n: u64) -> usize
     put_decimal(out, after, n)
 }
 
-fn bits_of(x: f64) -> u64
+// A double's bits.
+pub fn bits_of(x: f64) -> u64
     ensures { λ r. ⌜ r ≡ toBits binary64 x ⌝ }
 {
     if x == x { f64::to_bits(x) } else { NAN_BITS }

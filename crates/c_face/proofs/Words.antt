@@ -1,0 +1,106 @@
+-- The words of an answer, case by case, and how they come into the lent ones. Assumes nothing.
+use mathlib.Core.Path.{_≡_, refl, sym, ap, _∙_}
+use Prim.Native.Nat.{ℕ, zero, suc, _+_, _≤_, _<_}
+use native.Mathlib.Nat.{zero-add}
+use native.Mathlib.Omega.{arith}
+use mathlib.Core.List.{List, [], _∷_, _++_}
+use lib.ListN.{length, getD, drop, set, replicate}
+use lib.Seq.{paste, paste-suc, take-length}
+use lib.Dec.{le→leb}
+use lib.Ieee.{Float, binary64, toBits}
+use Rattle.basics.proofs.Choice.{pick-true, pick-false, nleb}
+use Rattle.tree.specs.declared.Side.{Side}
+use Rattle.tree.specs.declared.Side.the-variants.{Leaf, Split}
+use Rattle.tree.specs.declared.Tree.{Tree}
+use Rattle.tree.specs.declared.Answer.{Answer}
+use Rattle.tree.specs.declared.Answer.the-variants.{TurnedBack, Kept, Found}
+use Rattle.c_face.specs.Face.{written}
+use Rattle.c_face.specs.Rule.{sideWords, foundWords, shortWords, searchWords}
+
+-- ---- a side
+
+pub leaf-words : (side : Side) (label error : ℕ) → side ≡ Leaf label error → 0 ∷ label ∷ error ∷ 0 ∷ 0 ∷ 0 ∷ 0 ∷ [] ≡ sideWords side
+unfolding sideWords
+leaf-words side label error e = ap sideWords (sym e)
+
+pub split-words : (side : Side) (column : ℕ) (threshold : Float) (left right lost missed bits : ℕ) → side ≡ Split column threshold left right lost missed
+    → bits ≡ toBits binary64 threshold
+    → 1 ∷ column ∷ bits ∷ left ∷ right ∷ lost ∷ missed ∷ [] ≡ sideWords side
+unfolding sideWords
+split-words side column threshold left right lost missed bits e f =
+    ap (λ (b : ℕ). 1 ∷ column ∷ b ∷ left ∷ right ∷ lost ∷ missed ∷ []) f ∙ ap sideWords (sym e)
+
+-- the first seven of a list, before others
+abbrev seven : List ℕ → List ℕ → List ℕ
+seven l rest = getD l 0 0 ∷ getD l 1 0 ∷ getD l 2 0 ∷ getD l 3 0 ∷ getD l 4 0 ∷ getD l 5 0 ∷ getD l 6 0 ∷ rest
+
+seven-words : (side : Side) (rest : List ℕ) → seven (sideWords side) rest ≡ sideWords side ++ rest
+unfolding sideWords
+seven-words (Leaf label error) rest = refl
+seven-words (Split column threshold left right lost missed) rest = refl
+
+-- word by word, both sides
+pub both-words : (left right : Side) (l r : List ℕ) → l ≡ sideWords left → r ≡ sideWords right → seven l (seven r []) ≡ sideWords left ++ sideWords right
+both-words left right l r e f =
+    ap (λ (k : List ℕ). seven k (seven r [])) e
+    ∙ seven-words left (seven r [])
+    ∙ ap (λ (k : List ℕ). sideWords left ++ seven k []) f
+    ∙ ap (λ (k : List ℕ). sideWords left ++ k) (seven-words right [] ∙ nothing-after (sideWords right))
+  where
+    nothing-after : (k : List ℕ) → k ++ [] ≡ k
+    nothing-after [] = refl
+    nothing-after (x ∷ k) = ap (λ (t : List ℕ). x ∷ t) (nothing-after k)
+
+-- ---- an answer
+
+pub found-words : (tree : Tree) (tried bits : ℕ) (l r : List ℕ) → bits ≡ toBits binary64 (tree .threshold)
+    → l ≡ sideWords (tree .left) → r ≡ sideWords (tree .right)
+    → 2 ∷ tree .error ∷ tried ∷ tree .column ∷ bits ∷ seven l (seven r []) ≡ foundWords tree tried
+unfolding foundWords
+found-words tree tried bits l r e f g =
+    ap (λ (b : ℕ). 2 ∷ tree .error ∷ tried ∷ tree .column ∷ b ∷ seven l (seven r [])) e
+    ∙ ap (λ (k : List ℕ). 2 ∷ tree .error ∷ tried ∷ tree .column ∷ toBits binary64 (tree .threshold) ∷ k) (both-words (tree .left) (tree .right) l r f g)
+
+pub short-words : (kind first second : ℕ) → set (set (set (replicate 19 0) 0 kind) 1 first) 2 second ≡ shortWords kind first second
+unfolding shortWords
+short-words kind first second = refl
+
+pub turned-words : (answer : Answer) (number place : ℕ) (words : List ℕ) → answer ≡ TurnedBack number place → words ≡ shortWords 0 number place
+    → words ≡ searchWords answer
+unfolding searchWords
+turned-words answer number place words e f = f ∙ ap searchWords (sym e)
+
+pub kept-words : (answer : Answer) (error tried : ℕ) (words : List ℕ) → answer ≡ Kept error tried → words ≡ shortWords 1 error tried
+    → words ≡ searchWords answer
+unfolding searchWords
+kept-words answer error tried words e f = f ∙ ap searchWords (sym e)
+
+pub rule-words : (answer : Answer) (tree : Tree) (tried : ℕ) (words : List ℕ) → answer ≡ Found tree tried → words ≡ foundWords tree tried
+    → words ≡ searchWords answer
+unfolding searchWords
+rule-words answer tree tried words e f = f ∙ ap searchWords (sym e)
+
+-- ---- the words in the lent answer
+
+pub left-alone : (words answer : List ℕ) → length answer < length words → answer ≡ written words answer
+unfolding written
+left-alone words answer h = sym (pick-false _ _ _ (nleb (length words) (length answer) h))
+
+-- one word more is copied
+pub next-word : (words answer : List ℕ) (at : ℕ) → at < length words → length words ≤ length answer
+    → set (paste answer 0 words at) at (getD words at 0) ≡ paste answer 0 words (at + 1)
+next-word words answer at h room =
+    let one : suc at ≡ at + 1 = omega arith in
+    ap (λ (i : ℕ). set (paste answer 0 words at) i (getD words at 0)) (sym (zero-add at))
+    ∙ paste-suc answer 0 words at 0 (omega arith) h
+    ∙ ap (λ (n : ℕ). paste answer 0 words n) one
+
+pub all-written : (words answer now : List ℕ) (at : ℕ) → length words ≤ length answer → at ≡ length words → now ≡ paste answer 0 words at
+    → now ≡ written words answer
+unfolding written
+all-written words answer now at h e f =
+    f
+    ∙ ap (λ (n : ℕ). paste answer 0 words n) e
+    ∙ ap (λ (k : List ℕ). k ++ drop (0 + length words) answer) (take-length words)
+    ∙ ap (λ (n : ℕ). words ++ drop n answer) (zero-add (length words))
+    ∙ sym (pick-true _ _ _ (le→leb (length words) (length answer) h))

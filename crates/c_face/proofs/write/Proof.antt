@@ -1,0 +1,83 @@
+-- `c_face::write` meets its contract. The loop's invariant: the first words are copied, and the rest is as it was. Assumes nothing.
+use mathlib.Core.Path.{_≡_, refl, ap, _∙_}
+use Prim.Native.Nat.{ℕ, _+_, _-_, _≤_, _<_}
+use native.Mathlib.Omega.{arith}
+use mathlib.Core.List.{List}
+use lib.ListN.{length, getD, set, length-set}
+use lib.Seq.{paste, paste-zero}
+use Rattle.c_face.proofs.Words.{left-alone, next-word, all-written}
+use borrow.Author.Needs.{needs}
+use Rattle.c_face.proofs.write.Statement.{statement}
+use Rattle.c_face.proofs.write.Tie as tie
+
+abbrev Inv-loop : tie.InvT-loop
+Inv-loop answer₀ words at₀ answer at =
+    (at ≤ length words) × (length words ≤ length answer₀) × (length answer ≡ length answer₀) × (answer ≡ paste answer₀ 0 words at)
+
+abbrev μ-loop : tie.MeasureT-loop
+μ-loop answer₀ words at₀ answer at = length words - at
+
+returns : tie.Need-returns Inv-loop μ-loop
+returns c = left-alone _ _ (c .if1 .taken)
+
+loop-holds : tie.Need-loop-holds Inv-loop μ-loop
+loop-holds c =
+    let a = c .before .args in
+    (omega arith, c .if1 .left, refl, paste-zero (a .answer .now) 0 (a .words .now))
+
+mul-answer : tie.Need-mul-answer Inv-loop μ-loop
+mul-answer c = search needs
+
+shared-slice-read-answer : tie.Need-shared-slice-read-answer Inv-loop μ-loop
+shared-slice-read-answer c = search needs
+
+mul-answer-2 : tie.Need-mul-answer-2 Inv-loop μ-loop
+mul-answer-2 c = search needs
+
+slice-write-answer : tie.Need-slice-write-answer Inv-loop μ-loop
+slice-write-answer c = search needs
+
+add-at : tie.Need-add-at Inv-loop μ-loop
+add-at c = search needs
+
+loop-less : tie.Need-loop-less Inv-loop μ-loop
+loop-less c = search needs
+
+loop-again : tie.Need-loop-again Inv-loop μ-loop
+loop-again c =
+    let a = c .before .before .before .before .args in
+    let l = c .before .before .loop in
+    let words : List ℕ = a .words .now in
+    let here : l .at < length words = omega arith in (
+      omega arith,
+      l .inv .1,
+      simp length-set (l .inv .2),
+      ap (λ (k : List ℕ). set k (l .at) (getD words (l .at) 0)) (l .inv .3) ∙ next-word words (a .answer .now) (l .at) here (l .inv .1),
+    )
+
+same-length : tie.Need-same-length Inv-loop μ-loop
+same-length c = search needs
+
+returns-2 : tie.Need-returns-2 Inv-loop μ-loop
+returns-2 c =
+    let l = c .before .loop in
+    let a = c .before .before .before .args in
+    all-written (a .words .now) (a .answer .now) (l .answer) (l .at) (l .inv .1) (omega arith) (l .inv .3)
+
+pub write-spec : {M : Type 1} → statement M
+write-spec =
+    tie.close
+    (tie.spec
+    Inv-loop
+    μ-loop
+    returns
+    loop-holds
+    mul-answer
+    shared-slice-read-answer
+    mul-answer-2
+    slice-write-answer
+    add-at
+    loop-less
+    loop-again
+    same-length
+    returns-2)

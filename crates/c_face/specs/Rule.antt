@@ -1,0 +1,37 @@
+-- The words of a search's answer (oracle/README.md, "The port's seam"). Definitions only.
+use Prim.Native.Nat.{ℕ}
+use mathlib.Core.List.{List, [], _∷_, _++_}
+use lib.ListN.{replicate}
+use lib.Ieee.{Float, binary64, toBits}
+use Rattle.tree.specs.declared.Side.{Side}
+use Rattle.tree.specs.declared.Side.the-variants.{Leaf, Split}
+use Rattle.tree.specs.declared.Tree.{Tree}
+use Rattle.tree.specs.declared.Answer.{Answer}
+use Rattle.tree.specs.declared.Answer.the-variants.{TurnedBack, Kept, Found}
+use Rattle.depth2.specs.Search.{searchOf}
+use Rattle.c_face.specs.Face.{sheetIn, termsIn}
+
+-- "A side is a leaf (label, error) or a split (column, threshold, two labels, two errors)": seven words, 0 where a leaf says nothing
+unfoldable pub sideWords : Side → List ℕ
+sideWords (Leaf label error) = 0 ∷ label ∷ error ∷ 0 ∷ 0 ∷ 0 ∷ 0 ∷ []
+sideWords (Split column threshold left right lost missed) =
+    1 ∷ column ∷ toBits binary64 threshold ∷ left ∷ right ∷ lost ∷ missed ∷ []
+
+-- "Found (error, column, threshold, two sides, tried)"
+unfoldable pub foundWords : Tree → ℕ → List ℕ
+foundWords tree tried =
+    2 ∷ tree .error ∷ tried ∷ tree .column ∷ toBits binary64 (tree .threshold) ∷ sideWords (tree .left) ++ sideWords (tree .right)
+
+-- a case that says two numbers, and 0 in the sixteen words past them
+unfoldable pub shortWords : ℕ → ℕ → ℕ → List ℕ
+shortWords kind first second = kind ∷ first ∷ second ∷ replicate 16 0
+
+-- "A search answers Turned back (number, place), Kept (error, tried) or Found (error, column, threshold, two sides, tried)."
+unfoldable pub searchWords : Answer → List ℕ
+searchWords (TurnedBack number place) = shortWords 0 number place
+searchWords (Kept error tried) = shortWords 1 error tried
+searchWords (Found tree tried) = foundWords tree tried
+
+-- what the search answers for a call's numbers and slices, with a scratch of that many words
+abbrev pub searchAnswer : List ℕ → List Float → List ℕ → List ℕ → List ℕ → List ℕ → ℕ → Answer
+searchAnswer numbers values codes order cuts counts words = searchOf (sheetIn numbers values codes order cuts counts) (termsIn numbers) words
