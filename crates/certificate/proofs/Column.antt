@@ -1,14 +1,13 @@
 -- What the search of a column asks of its cuts and of the scan holds of every column of a sound sheet. Assumes nothing.
-use mathlib.Core.Path.{_≡_, refl, sym, ap, ap₂, _∙_, subst, subst₂}
-use Prim.Native.Nat.{ℕ, suc, _+_, _-_, _≤_, _<_, max, min}
+use mathlib.Core.Path.{_≡_, sym, subst, subst₂}
+use Prim.Native.Nat.{ℕ, suc, _+_, _-_, _≤_, _<_, max}
 use native.Mathlib.Omega.{arith}
-use mathlib.Core.Bool.{Bool, true, false, not, _&&_}
-use mathlib.Core.List.{List}
-use lib.ListN.{length, getD}
-use lib.Dec.{T, leb, ltb, leb→le, le→leb, ltb→lt, lt→ltb}
+use mathlib.Core.Bool.{_&&_}
+use lib.ListN.{length}
+use lib.Dec.{T, leb, ltb, leb→le, le→leb, ltb→lt}
 use Rattle.basics.proofs.Choice.{and-left, and-right, and-both}
 use Rattle.basics.proofs.Lists.{getD-table, length-table}
-use Rattle.sheet.specs.Sheet.{Sheet, countOf, placesOf, leastRows}
+use Rattle.sheet.specs.Sheet.{Sheet, countOf, placesOf}
 use Rattle.sheet.specs.Sheet as sheet
 use Rattle.sheet.specs.Sound.{Sound}
 use Rattle.sheet.specs.declared.Terms.{Terms}
@@ -16,7 +15,7 @@ use Rattle.cuts.specs.declared.Run.{Run}
 use Rattle.cuts.specs.Lookups.{place, Ascending}
 use Rattle.cuts.specs.Feasible.{feasible, feasibleOf, Exactly}
 use Rattle.cuts.proofs.Feasible.{feasible-exactly}
-use Rattle.interval_pruner.specs.Column.{Column, placeOf, leftOf, rightOf, errorOf}
+use Rattle.interval_pruner.specs.Column.{placeOf, leftOf, rightOf}
 use Rattle.column_search.specs.Laws.{Feasible, Metric}
 use Rattle.leaves_score.specs.Root.{errorsAt}
 use Rattle.side_laws.specs.Root.{Moved}

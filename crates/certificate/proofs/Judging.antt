@@ -1,17 +1,16 @@
 -- The judge counts the mistakes that the laws of the scan speak of; what it accepts is a proper tree, and it accepts a tree that tells what is so.
 -- Assumes nothing.
-use mathlib.Core.Path.{_≡_, refl, sym, ap, ap₂, _∙_, subst}
-use Prim.Native.Nat.{ℕ, zero, suc, _+_, _≤_, _<_, min}
+use mathlib.Core.Path.{_≡_, refl, sym, ap, ap₂, _∙_}
+use Prim.Native.Nat.{ℕ, _+_, _<_}
 use native.Mathlib.Omega.{arith}
-use mathlib.Core.Bool.{Bool, true, false, not, _&&_, _||_}
+use mathlib.Core.Bool.{Bool, true, false, not, _&&_}
 use lib.ListN.{length}
-use lib.Dec.{T, T-not, not-T, leb, ltb, eqb, leb→le, le→leb, nleb→lt, nltb→le}
-use lib.Ieee.{Float, nan, inf, fin, binary64, fits}
+use lib.Dec.{T, leb, ltb, eqb, nleb→lt}
+use lib.Ieee.{Float}
 use lib.Ieee.Scale.{finite}
 use Rattle.basics.specs.Choice.{pick}
 use Rattle.basics.specs.Walk.{walk}
-use Rattle.basics.proofs.Choice.{pick-false, decide, and-left, and-right, and-both, nor-left, nor-right, nor-both, nleb, nltb}
-use Rattle.order.specs.Order.{comparable}
+use Rattle.basics.proofs.Choice.{pick-false, nor-left, nor-right, nor-both, nleb}
 use Rattle.order.proofs.Order.{finite-comparable}
 use Rattle.threshold.specs.Laws.{Measured}
 use Rattle.threshold.proofs.Law.{within-finite}
@@ -19,27 +18,25 @@ use Rattle.sheet.specs.Sheet.{Sheet}
 use Rattle.sheet.specs.declared.Terms.{Terms}
 use Rattle.sheet.specs.declared.Checked.{Checked}
 use Rattle.sheet.specs.declared.Checked.the-variants.{Accepted, Refused}
-use Rattle.sheet.specs.Check.{cellsOf, sizeHolds, lengthsHold, scratchHolds, termsHold, badValue, badLabel, badOrder, falls, badCuts, atIndex, reason, contentOf, checkOf}
-use Rattle.sheet.specs.Reasons.{sizeOutside, lengthWrong, scratchShort, termAbove, valueOutside, labelHigh, orderWrong, valueFalls, cutsWrong}
+use Rattle.sheet.specs.Check.{cellsOf, sizeHolds, lengthsHold, scratchHolds, termsHold, badValue, badLabel, reason, contentOf, checkOf}
+use Rattle.sheet.specs.Reasons.{sizeOutside, lengthWrong, scratchShort, termAbove, valueOutside, labelHigh}
 use Rattle.tree.specs.declared.Side.{Side}
 use Rattle.tree.specs.declared.Side.the-variants.{Leaf, Split}
 use Rattle.tree.specs.declared.Tree.{Tree}
-use Rattle.tree.specs.Answer.{sideError}
 use Rattle.leaves_score.specs.Scan.{other, sizeOf}
 use Rattle.leaves_score.specs.Root.{markOf}
-use Rattle.side_laws.specs.Told.{Told, SplitTold, wrongOf, leftPart, rightPart}
+use Rattle.side_laws.specs.Told.{Told, wrongOf}
 use Rattle.side_laws.specs.Opt.{mistakes, Proper}
 use Rattle.side_laws.specs.Root.{rootMistakes}
 use Rattle.side_laws.proofs.Mistakes.{leaf-mistakes, split-mistakes}
 use Rattle.side_laws.proofs.Root.{root-parts}
-use Rattle.judge.specs.declared.Wrong.{Wrong}
 use Rattle.judge.specs.declared.Wrong.the-variants.{AtLeaf, AtSplit}
 use Rattle.judge.specs.declared.Judgement.{Judgement}
 use Rattle.judge.specs.declared.Verdict.{Verdict}
 use Rattle.judge.specs.declared.Verdict.the-variants.{TurnedBack, Judged}
 use Rattle.judge.specs.Mistakes.{rowsAt, wrongAt, sideWrong, wrongSum, rootLeftward, rootRightward, judgementOf}
 use Rattle.judge.specs.Judge.{judgedHolds, badColumn, badLeaf, badThreshold, back, backFirst, treeChecked, judgeOf}
-use Rattle.certificate.specs.Certificate.{SideDouble, TreeDouble, ownErrors}
+use Rattle.certificate.specs.Certificate.{SideDouble, ownErrors}
 
 -- ---- mistakes
 

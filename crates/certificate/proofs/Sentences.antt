@@ -1,41 +1,38 @@
 -- The three sentences. 1: any root question parts the rows as a cut does, no cut is passed over but by pruning that loses nothing, and a side's
 -- error is the least of all trees on its rows. 2: an error is replaced by a lower one only. 3: each leaf's error is a count of its rows.
 -- Assumes nothing.
-use mathlib.Core.Path.{_≡_, refl, sym, ap, ap₂, _∙_, subst}
+use mathlib.Core.Path.{_≡_, refl, sym, ap, _∙_, subst}
 use Prim.Native.Nat.{ℕ, _+_, _≤_, _<_, min}
 use native.Mathlib.Omega.{arith}
-use mathlib.Core.Bool.{Bool, true, false, not}
 use mathlib.Core.Option.{Option, none, some}
 use Rattle.basics.specs.Choice.{Hit}
 use Rattle.order.proofs.Order.{finite-comparable}
 use Rattle.sheet.specs.Sheet.{Sheet, countOf}
 use Rattle.sheet.specs.Sound.{Sound}
 use Rattle.sheet.specs.declared.Terms.{Terms}
-use Rattle.sheet.specs.declared.Checked.{Checked}
 use Rattle.sheet.specs.declared.Checked.the-variants.{Accepted}
 use Rattle.sheet.specs.Check.{checkOf}
 use Rattle.sheet.specs.Laws.{Doubles}
 use Rattle.sheet.proofs.Accepted.{accepted-sound}
-use Rattle.tree.specs.declared.Side.{Side}
 use Rattle.tree.specs.declared.Tree.{Tree}
 use Rattle.tree.specs.declared.Answer.{Answer}
-use Rattle.tree.specs.declared.Answer.the-variants.{Kept, Found}
-use Rattle.tree.specs.Answer.{finalError, ruleOf, sideError}
+use Rattle.tree.specs.Answer.{finalError, ruleOf}
 use Rattle.leaves_score.specs.Scan.{other}
-use Rattle.leaves_score.specs.Root.{cutThreshold, markOf, sidesAt, errorsAt}
+use Rattle.leaves_score.specs.Root.{cutThreshold, markOf, sidesAt}
 use Rattle.side_laws.specs.Told.{Told}
-use Rattle.side_laws.specs.Root.{AtCut, rootMistakes}
+use Rattle.side_laws.specs.Root.{rootMistakes}
 use Rattle.side_laws.proofs.Sides.{tells}
 use Rattle.side_laws.proofs.Cuts.{at-cuts}
 use Rattle.side_laws.proofs.Root.{root-least, cut-mistakes}
 use Rattle.judge.specs.declared.Judgement.{Judgement}
-use Rattle.judge.specs.declared.Verdict.the-variants.{Judged}
-use Rattle.judge.specs.Mistakes.{rowsAt, rootLeftward, rootRightward, judgementOf}
-use Rattle.judge.specs.Judge.{judgeOf}
+use Rattle.judge.specs.Mistakes.{rootLeftward, rootRightward, judgementOf}
 use Rattle.depth2.specs.Try.{treeAt}
 use Rattle.depth2.specs.Search.{Progress, searched, answerOf, answerAfter, searchOf}
-use Rattle.certificate.specs.Certificate.{AnyTree, NothingBetter, NeverWorse, AsItSays, TreeTells, Certified, ownErrors}
-use Rattle.certificate.proofs.Progress.{Good, Named, cutError, searched-good, searched-best}
+use Rattle.depth2.specs.Laws.{cutError, MakesError, Bettered}
+use Rattle.depth2.proofs.Laws.{error-falls}
+use Rattle.depth2.proofs.Answer.{accepted-parts}
+use Rattle.certificate.specs.Certificate.{NothingBetter, NeverWorse, AsItSays, TreeTells, Certified}
+use Rattle.certificate.proofs.Progress.{searched-best}
 use Rattle.certificate.proofs.Judging.{Accepts, accepts, proper, tree-sum, left-rows, right-rows, same-sheet, taken, told-wrong}
 
 -- ---- the answer of an accepted call
@@ -56,6 +53,10 @@ final-is s t words e = ap finalError (answer-is s t words e) ∙ error-is s t (s
 final : (P : ℕ → Type 0) (s : Sheet) (t : Terms) (words : ℕ) → checkOf s t words ≡ Accepted → P (searched s t .error) → Hit P (finalError (searchOf s t words))
 final P s t words e h = subst (Hit P) (sym (final-is s t words e)) h
 
+-- the error falls or stays, and a lower one is that of the cut named
+falls-or-stays : (s : Sheet) (t : Terms) (words : ℕ) → Doubles s → checkOf s t words ≡ Accepted → Bettered s t (t .error) (searched s t)
+falls-or-stays s t words doubles e = error-falls s t (accepted-parts s t words doubles e .0)
+
 -- ---- 1
 
 pub nothing-better : NothingBetter
@@ -73,7 +74,7 @@ nothing-better s t words doubles e small tree j any =
 -- ---- 2
 
 pub never-worse : NeverWorse
-never-worse s t words doubles e = final (λ n. n ≤ t .error) s t words e (searched-good s (accepted-sound s t words doubles e) t .falls)
+never-worse s t words doubles e = final (λ n. n ≤ t .error) s t words e (falls-or-stays s t words doubles e .falls)
 
 -- ---- 3
 
@@ -103,15 +104,15 @@ pub tree-tells : TreeTells
 tree-tells s t words doubles e =
     final (λ n. n < t .error → Hit (λ tree. (tree .error ≡ n) × AsItSays s tree) (ruleOf (searchOf s t words))) s t words e
     (λ lower. subst (λ (x : Answer). Hit (λ tree. (tree .error ≡ searched s t .error) × AsItSays s tree) (ruleOf x)) (sym (answer-is s t words e))
-    (go (searched s t .best) (searched-good s sound t .named) lower))
+    (go (searched s t .best) (falls-or-stays s t words doubles e .named lower)))
   where
     sound : Sound s
     sound = accepted-sound s t words doubles e
 
-    go : (best : Option (ℕ × ℕ)) → Named s t (searched s t .error) best → searched s t .error < t .error
+    go : (best : Option (ℕ × ℕ)) → Hit (MakesError s t (searched s t .error)) best
         → Hit (λ tree. (tree .error ≡ searched s t .error) × AsItSays s tree) (ruleOf (answerOf s t (searched s t) best))
-    go none same lower = absurd (omega arith)
-    go (some cut) n lower =
+    go none n = absurd n
+    go (some cut) n =
         unfold answerOf in
         (unfold treeAt in refl, cut-tells s t words sound e (cut .0) (cut .1) (searched s t .error) (n .0) (n .1) (n .2))
 

@@ -33,18 +33,23 @@ unfolding pick
 passes number true rest e = (tt, e)
 passes number false rest e = let z : _≡_ {A = ℕ} 0 1 = cc in absurd (omega arith)
 
-pub accepted-whole : (s : Sheet) (t : Terms) (xs : List ℕ) → Doubles s → checkOf s t (length xs) ≡ Accepted → Whole s × Enough (s .rows) xs
+pub accepted-parts : (s : Sheet) (t : Terms) (words : ℕ) → Doubles s → checkOf s t words ≡ Accepted → Whole s × (wordsPerRow * s .rows ≤ words)
 unfolding checkOf scratchHolds
-accepted-whole s t xs doubles e =
-    let sound = accepted-sound s t (length xs) doubles e in
+accepted-parts s t words doubles e =
     let rest4 : Checked = whole termAbove (termsHold t) (contentOf s) in
-    let rest3 : Checked = whole scratchShort (scratchHolds s (length xs)) rest4 in
+    let rest3 : Checked = whole scratchShort (scratchHolds s words) rest4 in
     let first = passes sizeOutside (sizeHolds s) (whole lengthWrong (lengthsHold s) rest3) e in
     let second = passes lengthWrong (lengthsHold s) rest3 (first .1) in
-    let third = passes scratchShort (scratchHolds s (length xs)) rest4 (second .1) in (
-      record { sound = sound; lengths = measured-lists s (second .0) },
-      record { some = sound .limited .rows-some; few = sound .limited .rows-most; words = leb→le (wordsPerRow * s .rows) (length xs) (third .0) },
+    let third = passes scratchShort (scratchHolds s words) rest4 (second .1) in (
+      record { sound = accepted-sound s t words doubles e; lengths = measured-lists s (second .0) },
+      leb→le (wordsPerRow * s .rows) words (third .0),
     )
+
+pub accepted-whole : (s : Sheet) (t : Terms) (xs : List ℕ) → Doubles s → checkOf s t (length xs) ≡ Accepted → Whole s × Enough (s .rows) xs
+accepted-whole s t xs doubles e =
+    let parts = accepted-parts s t (length xs) doubles e in
+    let limited = parts .0 .sound .limited in
+    (parts .0, record { some = limited .rows-some; few = limited .rows-most; words = parts .1 })
 
 -- a refused sheet is turned back by the check's number and place
 pub refused : (s : Sheet) (t : Terms) (words number place : ℕ) → checkOf s t words ≡ Refused number place → TurnedBack number place ≡ searchOf s t words

@@ -20,8 +20,9 @@ use Rattle.tree.specs.Answer.{sideError, ruleOf}
 use Rattle.depth2.specs.Try.{columnOf, treeAt}
 use Rattle.depth2.specs.Search.{Progress, bestAfter, joined, afterColumn, searchColumns, searched, answerOf}
 use Rattle.depth2.specs.Course.{feasibleAt, firstAt, lastAt}
-use Rattle.depth2.specs.Laws.{feasibleCount, mostTried, TriesSummed, cutError, Bettered, ErrorFalls, FoundExactly, OutcomesCoincide}
+use Rattle.depth2.specs.Laws.{feasibleCount, mostTried, TriesSummed, MakesError, Bettered, ErrorFalls, FoundExactly, OutcomesCoincide}
 use Rattle.depth2.proofs.Turns.{feasible-cuts}
+use Rattle.depth2.proofs.Places.{places-count}
 
 module _ (s : Sheet) (t : Terms) (whole : Whole s) where
   -- ---- tries
@@ -62,29 +63,29 @@ module _ (s : Sheet) (t : Terms) (whole : Whole s) where
   abbrev Best : ℕ → State → ℕ → Type 0
   Best c run k = (firstAt s t c ≤ k) × (k ≤ lastAt s t c) × (run .error ≡ errorOf (columnOf s t c) k)
 
-  found-error : (c : ℕ) (run : State) (k : ℕ) → Best c run k → run .error ≡ cutError s t c k
+  found-error : (c : ℕ) → c < s .columns → firstAt s t c < feasibleAt s t c .end → (run : State) (k : ℕ) → Best c run k → MakesError s t (run .error) (c, k)
   unfolding leftOf rightOf
-  found-error c run k h = h .2
+  found-error c here filled run k h = (here, omega (arith, feasible-cuts s t c whole here filled .listed, places-count s whole c here, h .1), h .2)
 
   none-some : (k : ℕ) → _≡_ {A = Option ℕ} none (some k) → ⊥
   none-some k e = let z : _≡_ {A = ℕ} 0 1 = cc in omega arith
 
   module _ (error : ℕ) where
-    named-next : (c : ℕ) (run : State) (p : Progress) → Bettered s t error p → Lowered (columnOf s t c) (firstAt s t c) (lastAt s t c) (p .error) run
+    named-next : (c : ℕ) → c < s .columns → firstAt s t c < feasibleAt s t c .end → (run : State) (p : Progress) → Bettered s t error p → Lowered (columnOf s t c) (firstAt s t c) (lastAt s t c) (p .error) run
         → (best : Option ℕ) → run .best ≡ best → Bettered s t error (record { error = run .error; best = bestAfter c best (p .best); tried = p .tried + triedOf run })
     unfolding bestAfter
-    named-next c run p b l none e =
+    named-next c here filled run p b l none e =
         let same : p .error ≡ run .error =
         reach (run .error) (p .error) (l .falls) (λ z. sym z) (λ h. absurd (subst (Hit (Best c run)) e (l .named h))) in
         record {
           falls = omega (arith, b .falls, l .falls);
-          named = λ h. subst (λ (n : ℕ). Hit (λ (cut : ℕ × ℕ). n ≡ cutError s t (cut .0) (cut .1)) (p .best)) same (b .named (omega arith));
+          named = λ h. subst (λ (n : ℕ). Hit (MakesError s t n) (p .best)) same (b .named (omega arith));
           stays = λ h. b .stays (omega arith);
         }
-    named-next c run p b l (some k) e =
+    named-next c here filled run p b l (some k) e =
         let h : run .error < p .error =
         order (p .error) (run .error) (λ g. absurd (none-some k (sym (l .stays g) ∙ e))) (λ g. g) in
-        let is : run .error ≡ cutError s t c k = found-error c run k (subst (Hit (Best c run)) e (l .named h)) in
+        let is : MakesError s t (run .error) (c, k) = found-error c here filled run k (subst (Hit (Best c run)) e (l .named h)) in
         record { falls = omega (arith, b .falls); named = λ _. is; stays = λ g. absurd (omega (arith, b .falls)) }
 
     column-bettered : (c : ℕ) → c < s .columns → (p : Progress) → Bettered s t error p → Bettered s t error (afterColumn s t c p)
@@ -93,7 +94,7 @@ module _ (s : Sheet) (t : Terms) (whole : Whole s) where
         by-ltb (Bettered s t error) (firstAt s t c) (feasibleAt s t c .end)
         (λ some.
         let run : State = columnRun (columnOf s t c) (t .bound) (firstAt s t c) (lastAt s t c) (p .error) in
-        named-next c run p b
+        named-next c here some run p b
         (lowers (columnOf s t c) (t .bound) (firstAt s t c) (lastAt s t c) (p .error) (feasible-cuts s t c whole here some)) (run .best) refl)
         (λ _. b)
 
@@ -116,11 +117,11 @@ error-falls s t whole =
     columns-bettered s t whole (t .error) (s .columns) 0 (record { error = t .error; best = none; tried = 0 }) (omega arith)
     (record { falls = omega arith; named = λ h. absurd (omega arith); stays = λ _. refl })
 
-rule-found : (s : Sheet) (t : Terms) (p : Progress) (best : Option (ℕ × ℕ)) → Hit (λ (cut : ℕ × ℕ). p .error ≡ cutError s t (cut .0) (cut .1)) best
+rule-found : (s : Sheet) (t : Terms) (p : Progress) (best : Option (ℕ × ℕ)) → Hit (MakesError s t (p .error)) best
     → Hit (λ (tree : Tree). (tree .error ≡ p .error) × (tree .error ≡ sideError (tree .left) + sideError (tree .right))) (ruleOf (answerOf s t p best))
 unfolding answerOf treeAt errorsAt
 rule-found s t p none h = h
-rule-found s t p (some cut) h = (refl, h)
+rule-found s t p (some cut) h = (refl, h .2)
 
 rule-none : (s : Sheet) (t : Terms) (p : Progress) → ruleOf (answerOf s t p none) ≡ none
 unfolding answerOf

@@ -7,7 +7,7 @@ use lib.ListN.{length}
 use Rattle.basics.specs.Choice.{pick, Hit}
 use lib.Dec.{leb}
 use Rattle.sheet.specs.declared.Terms.{Terms}
-use Rattle.sheet.specs.Sheet.{Sheet}
+use Rattle.sheet.specs.Sheet.{Sheet, countOf}
 use Rattle.tree.specs.declared.Tree.{Tree}
 use Rattle.tree.specs.declared.Answer.{Answer}
 use Rattle.tree.specs.Answer.{sideError, ruleOf}
@@ -37,11 +37,15 @@ TriesSummed =
 abbrev pub cutError : Sheet → Terms → ℕ → ℕ → ℕ
 cutError s t c k = (errorsAt s (t .support) c k) .0 + (errorsAt s (t .support) c k) .1
 
+-- a cut of the sheet whose error it is
+abbrev pub MakesError : Sheet → Terms → ℕ → ℕ × ℕ → Type 0
+MakesError s t error cut = (cut .0 < s .columns) × (cut .1 < countOf s (cut .0)) × (error ≡ cutError s t (cut .0) (cut .1))
+
 -- The final error is not above the starting one. Where it is lower it is the error of the cut named best; where it is not, no cut is named, and nothing
 -- is found.
 pub record Bettered (s : Sheet) (t : Terms) (error : ℕ) (p : Progress) : Type 0 where
   pub falls : p .error ≤ error
-  pub named : p .error < error → Hit (λ (cut : ℕ × ℕ). p .error ≡ cutError s t (cut .0) (cut .1)) (p .best)
+  pub named : p .error < error → Hit (MakesError s t (p .error)) (p .best)
   pub stays : error ≤ p .error → p .best ≡ none
 
 abbrev pub ErrorFalls : Type 0
