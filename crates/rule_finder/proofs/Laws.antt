@@ -1,16 +1,24 @@
 -- What is refused is what the reader refuses; every other answer carries the certificate. Assumes nothing.
-use mathlib.Core.Path.{_≡_, refl, sym, ap, _∙_}
-use Prim.Native.Nat.{ℕ}
+use mathlib.Core.Path.{_≡_, refl, sym, ap, ap₂, _∙_}
+use Prim.Native.Nat.{ℕ, _≤_}
 use native.Mathlib.Omega.{arith}
 use mathlib.Core.Option.{Option, none, some}
-use mathlib.Core.List.{List}
+use mathlib.Core.Bool.{Bool, true, false}
+use mathlib.Core.List.{List, _++_}
+use lib.ListN.{length, take, drop, length-append}
+use lib.Seq.{take-append-seam}
+use lib.Dec.{leb, le→leb}
+use Rattle.basics.specs.Choice.{pick}
+use Rattle.basics.proofs.Choice.{pick-true}
 use Rattle.sheet.specs.Sheet.{Sheet}
 use Rattle.sheet.specs.declared.Terms.{Terms}
 use Rattle.sheet.specs.declared.Checked.the-variants.{Accepted}
 use Rattle.sheet.specs.Check.{checkOf}
+use Rattle.tree.specs.declared.Answer.{Answer}
 use Rattle.tree.specs.declared.Answer.the-variants.{TurnedBack}
 use Rattle.tree.specs.Answer.{turnedBack}
 use Rattle.depth2.specs.Search.{answerOf, answerAfter, searchOf, searched, Progress}
+use Rattle.listing.specs.Listing.{listingOf, longest, writtenOf, outOf}
 use Rattle.certificate.proofs.Sentences.{certified}
 use Rattle.sheet_bytes.specs.declared.Head.{Head}
 use Rattle.sheet_bytes.specs.declared.Read.{Read}
@@ -18,7 +26,7 @@ use Rattle.sheet_bytes.specs.declared.Read.the-variants as read
 use Rattle.sheet_bytes.specs.Read.{readOf}
 use Rattle.sheet_bytes.proofs.Stages as stages
 use Rattle.rule_finder.specs.Run.{termsOf, wordsLent, sheetRead, answerTo, runOf}
-use Rattle.rule_finder.specs.Laws.{NeverTurnedBack, RefusedExactly, EverySigned, OutcomesCoincide}
+use Rattle.rule_finder.specs.Laws.{NeverTurnedBack, RefusedExactly, EverySigned, WrittenWithin, TextWritten, OutcomesCoincide}
 use Rattle.rule_finder.proofs.Reading.{doubles, accepted}
 
 -- ---- the answer, by what the reader says
@@ -71,5 +79,30 @@ every-signed bytes h e =
 
 -- ---- the outcome
 
+within : (answer : Answer) (out : List ℕ) → writtenOf answer out ≤ length (outOf answer out)
+unfolding writtenOf outOf
+within answer out = go (leb longest (length out))
+  where
+    text : List ℕ
+    text = listingOf answer
+
+    go : (b : Bool) → pick b (length text) 0 ≤ length (pick b (text ++ drop (length text) out) out)
+    go true = unfold pick in omega (arith, length-append text (drop (length text) out))
+    go false = unfold pick in omega arith
+
+pub written-within : WrittenWithin
+written-within bytes out count after o = omega (arith, o .count-is, ap length (o .text-is), within (runOf bytes) out)
+
+said : (answer : Answer) (out : List ℕ) → longest ≤ length out → take (writtenOf answer out) (outOf answer out) ≡ listingOf answer
+unfolding writtenOf outOf
+said answer out room =
+    let text = listingOf answer in
+    ap₂ take (pick-true (leb longest (length out)) (length text) 0 (le→leb longest (length out) room))
+    (pick-true (leb longest (length out)) (text ++ drop (length text) out) out (le→leb longest (length out) room))
+    ∙ take-append-seam text (drop (length text) out)
+
+pub text-written : TextWritten
+text-written bytes out count after o room = ap₂ take (o .count-is) (o .text-is) ∙ said (runOf bytes) out room
+
 pub outcomes-coincide : OutcomesCoincide
-outcomes-coincide bytes out m n after other a b = (a .length ∙ sym (b .length), a .text ∙ sym (b .text))
+outcomes-coincide bytes out m n after other a b = (a .count-is ∙ sym (b .count-is), a .text-is ∙ sym (b .text-is))

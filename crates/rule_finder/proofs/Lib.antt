@@ -4,4 +4,5 @@ pub mod Room
 pub mod Calling
 pub mod Laws
 pub mod Filled
+pub mod Unread
 pub mod Table

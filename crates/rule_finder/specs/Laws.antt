@@ -1,18 +1,19 @@
 -- What holds of the finder's answers, as statements; `proofs/` proves each.
 use mathlib.Core.Path.{_≡_}
-use Prim.Native.Nat.{ℕ}
+use Prim.Native.Nat.{ℕ, _+_, _≤_}
 use mathlib.Core.Option.{none}
 use mathlib.Core.List.{List}
+use lib.ListN.{length, take}
 use Rattle.sheet.specs.declared.Checked.the-variants.{Accepted}
 use Rattle.sheet.specs.Check.{checkOf}
 use Rattle.tree.specs.declared.Answer.the-variants.{TurnedBack}
 use Rattle.tree.specs.Answer.{turnedBack}
-use Rattle.listing.specs.Listing.{writtenOf, outOf}
+use Rattle.listing.specs.Listing.{listingOf, longest, writtenOf, outOf}
 use Rattle.certificate.specs.Certificate.{Certified}
 use Rattle.sheet_bytes.specs.declared.Head.{Head}
 use Rattle.sheet_bytes.specs.declared.Read.the-variants.{Refused, Sheet}
 use Rattle.sheet_bytes.specs.Read.{readOf}
-use Rattle.rule_finder.specs.Run.{termsOf, wordsLent, sheetRead, runOf}
+use Rattle.rule_finder.specs.Run.{termsOf, wordsLent, sheetRead, runOf, largestSheet}
 
 -- "Order: 20, 1, 21, 22, 23, 4, 5, 6.": these are the reader's, and a sheet that is read is never turned back
 abbrev pub NeverTurnedBack : Type 0
@@ -34,10 +35,27 @@ pub record Signed (bytes : List ℕ) (h : Head) : Type 0 where
 abbrev pub EverySigned : Type 0
 EverySigned = (bytes : List ℕ) (h : Head) → readOf bytes ≡ Sheet h → Signed bytes h
 
+-- nothing longer than the largest sheet is read ..
+abbrev pub NoneLonger : Type 0
+NoneLonger = (bytes : List ℕ) (h : Head) → readOf bytes ≡ Sheet h → length bytes ≤ largestSheet
+
+-- .. and one byte past it is enough to say what is refused, and why: whatever follows changes no answer
+abbrev pub OneMoreSuffices : Type 0
+OneMoreSuffices = (bytes : List ℕ) → runOf (take (largestSheet + 1) bytes) ≡ runOf bytes
+
 -- what the contract of `run` says of an outcome: how many bytes were written, and the memory afterwards
 pub record Outcome (bytes out : List ℕ) (count : ℕ) (after : List ℕ) : Type 0 where
-  pub length : count ≡ writtenOf (runOf bytes) out
-  pub text : after ≡ outOf (runOf bytes) out
+  pub count-is : count ≡ writtenOf (runOf bytes) out
+  pub text-is : after ≡ outOf (runOf bytes) out
+
+-- what was written lies within the memory
+abbrev pub WrittenWithin : Type 0
+WrittenWithin = (bytes out : List ℕ) (count : ℕ) (after : List ℕ) → Outcome bytes out count after → count ≤ length after
+
+-- and where there is room for every answer it is the answer's text
+abbrev pub TextWritten : Type 0
+TextWritten =
+    (bytes out : List ℕ) (count : ℕ) (after : List ℕ) → Outcome bytes out count after → longest ≤ length out → take count after ≡ listingOf (runOf bytes)
 
 -- "show that two outcomes fitting the contract coincide"
 abbrev pub OutcomesCoincide : Type 0

@@ -7,26 +7,16 @@ use Rattle.sheet_bytes.specs.declared.Read.the-variants.{Refused, Sheet}
 use Rattle.sheet_bytes.specs.Read.{readOf}
 use Rattle.rule_finder.proofs.Laws.{refused}
 use Rattle.rule_finder.proofs.Filled.{answer-read, small, values-long, values-taken, values-prepare, codes-long, codes-taken, search-read}
-use Rattle.sheet_bytes.proofs.read_sheet.Reads as read-sheet-reads
-use Rattle.rule_finder.proofs.find.Reads as find-reads
-use Rattle.rule_finder.proofs.answer_to.Reads as reads
-use Rattle.rule_finder.proofs.answer_to.Lts as lts
 use Rattle.rule_finder.proofs.answer_to.Statement.{statement}
 use Rattle.rule_finder.proofs.answer_to.Tie as tie
 
 -- what the reader answered is what the bytes say
-abbrev AtRefused : Type 0
-AtRefused = lts.After-read (read-sheet-reads.Asked, read-sheet-reads.Learnt, find-reads.Asked, find-reads.Learnt) reads.Pre reads.Post
-
-abbrev AtSheet : Type 0
-AtSheet = lts.After-read2 (read-sheet-reads.Asked, read-sheet-reads.Learnt, find-reads.Asked, find-reads.Learnt) reads.Pre reads.Post
-
-is-refused : (c : AtRefused) → readOf (c .before .before .before .before .before .before .before .before .args .bytes .now) ≡ Refused (c .read .given .0 .0) (c .read .given .0 .1 .0)
+is-refused : (c : tie.After-read) → readOf (c .before .before .before .before .before .before .before .before .args .bytes .now) ≡ Refused (c .read .given .0 .0) (c .read .given .0 .1 .0)
 is-refused c =
     sym (answer-read (c .before .before .before .before .before .before .before .before .args .bytes .now))
     ∙ sym (c .before .before .before .before .read-sheet .ensures .0) ∙ c .read .given .1
 
-is-sheet : (c : AtSheet) → readOf (c .before .before .before .before .before .before .before .before .args .bytes .now) ≡ Sheet (c .read2 .given .0 .0)
+is-sheet : (c : tie.After-read2) → readOf (c .before .before .before .before .before .before .before .before .args .bytes .now) ≡ Sheet (c .read2 .given .0 .0)
 is-sheet c =
     sym (answer-read (c .before .before .before .before .before .before .before .before .args .bytes .now))
     ∙ sym (c .before .before .before .before .read-sheet .ensures .0) ∙ c .read2 .given .1
@@ -50,7 +40,6 @@ mul-cells : tie.Need-mul-cells
 mul-cells c =
     let t = c .before .before in
     let h = t .read2 .given .0 .0 in
-    let r = t .before .before .before .before .read-sheet in
     let bytes = t .before .before .before .before .before .before .before .before .args .bytes .now in
     record { fits = omega (arith, small bytes h (is-sheet t) .cells-most) }
 
