@@ -14,8 +14,11 @@ use Rattle.tree.specs.declared.Side.the-variants.{Leaf, Split}
 use Rattle.tree.specs.declared.Tree.{Tree}
 use Rattle.tree.specs.declared.Answer.{Answer}
 use Rattle.tree.specs.declared.Answer.the-variants.{TurnedBack, Kept, Found}
+use Rattle.leaves_score.specs.declared.Sides.{Sides}
+use Rattle.depth2.specs.declared.Scanned.{Scanned}
+use Rattle.depth2.specs.declared.Scanned.the-variants as scanned
 use Rattle.c_face.specs.Face.{written}
-use Rattle.c_face.specs.Rule.{sideWords, foundWords, shortWords, searchWords}
+use Rattle.c_face.specs.Rule.{sideWords, foundWords, shortWords, searchWords, bothWords, scanWords}
 
 -- ---- a side
 
@@ -79,6 +82,21 @@ pub rule-words : (answer : Answer) (tree : Tree) (tried : ℕ) (words : List ℕ
     → words ≡ searchWords answer
 unfolding searchWords
 rule-words answer tree tried words e f = f ∙ ap searchWords (sym e)
+
+-- ---- a scan
+
+pub sides-words : (sides : Sides) (l r : List ℕ) → l ≡ sideWords (sides .left) → r ≡ sideWords (sides .right) → 1 ∷ seven l (seven r []) ≡ bothWords sides
+unfolding bothWords
+sides-words sides l r e f = ap (λ (k : List ℕ). 1 ∷ k) (both-words (sides .left) (sides .right) l r e f)
+
+pub unscanned-words : (scan : Scanned) (number place : ℕ) → scan ≡ scanned.TurnedBack number place
+    → set (set (set (replicate 15 0) 0 0) 1 number) 2 place ≡ scanWords scan
+unfolding scanWords
+unscanned-words scan number place e = ap scanWords (sym e)
+
+pub scanned-words : (scan : Scanned) (sides : Sides) (words : List ℕ) → scan ≡ scanned.Done sides → words ≡ bothWords sides → words ≡ scanWords scan
+unfolding scanWords
+scanned-words scan sides words e f = f ∙ ap scanWords (sym e)
 
 -- ---- the words in the lent answer
 

@@ -5,7 +5,9 @@ ghost use Rattle.prepare.specs.Prepared.{PreparedOf};
 ghost use Rattle.sheet.specs.Check.{scratchAfter};
 ghost use Rattle.depth2.specs.Search.{scratchOf};
 ghost use Rattle.c_face.specs.Face.{written, told, preparedTold, checkedTold, prepareAnswer, sizeIn, termsIn, sheetIn, checkAnswer};
-ghost use Rattle.c_face.specs.Rule.{sideWords, foundWords, shortWords, searchWords, searchAnswer};
+ghost use Rattle.c_face.specs.Rule.{sideWords, foundWords, shortWords, searchWords, searchAnswer, bothWords, scanWords, scanAnswer};
+use depth2::Scanned;
+use leaves_score::Sides;
 use prepare::Prepared;
 use sheet::Checked;
 use sheet::Size;
@@ -291,5 +293,91 @@ pub extern "C" fn finder_search(
     let terms = terms_in(numbers);
     let found = depth2::search(size, terms, values, codes, order, cuts, counts, scratch);
     let words = search_words(found);
+    write(answer, &words);
+}
+
+// ---- the scan of one cut
+
+const SCAN_WORDS: usize = 15;
+
+// What the first word of a scan's answer says, where it is not turned back.
+const SCANNED: u64 = 1;
+
+fn sides_words(sides: Sides) -> [u64; SCAN_WORDS]
+    ensures { λ r. ⌜ r ≡ bothWords sides ⌝ }
+{
+    let left = sides.left;
+    let right = sides.right;
+    let l = side_words(left);
+    let r = side_words(right);
+    [
+        SCANNED,
+        l[0],
+        l[1],
+        l[2],
+        l[3],
+        l[4],
+        l[5],
+        l[6],
+        r[0],
+        r[1],
+        r[2],
+        r[3],
+        r[4],
+        r[5],
+        r[6],
+    ]
+}
+
+fn scan_words(scanned: Scanned) -> [u64; SCAN_WORDS]
+    ensures { λ r. ⌜ r ≡ scanWords scanned ⌝ }
+{
+    match scanned {
+        Scanned::TurnedBack { number, place } => {
+            let reason = number as u64;
+            let mut words: [u64; SCAN_WORDS] = [0; SCAN_WORDS];
+            words[0] = TURNED_BACK;
+            words[1] = reason;
+            words[2] = place as u64;
+            words
+        }
+        Scanned::Done(sides) => sides_words(sides),
+    }
+}
+
+// The two sides of one cut, found as often as is said, for timing. Numbers: as the search, then column, cut number, times.
+#[no_mangle]
+pub extern "C" fn finder_scan(
+    numbers: &[u32],
+    values: &[f64],
+    codes: &[u8],
+    order: &[u16],
+    cuts: &[u16],
+    counts: &[u16],
+    scratch: &mut [u32],
+    answer: &mut [u64],
+)
+    ensures answers { λ _. ⌜ now (answer .exit) ≡ written (scanWords (scanAnswer (now (numbers .entry)) (now (values .entry)) (now (codes .entry)) (now (order .entry)) (now (cuts .entry)) (now (counts .entry)) (length (now (scratch .entry))))) (now (answer .entry)) ⌝ }
+    ensures lent { λ _. ⌜ now (scratch .exit) ≡ scratchOf (sheetIn (now (numbers .entry)) (now (values .entry)) (now (codes .entry)) (now (order .entry)) (now (cuts .entry)) (now (counts .entry))) (termsIn (now (numbers .entry))) (now (scratch .entry)) ⌝ }
+{
+    let size = size_in(numbers);
+    let terms = terms_in(numbers);
+    let column = size_number(numbers, 7);
+    let cut = size_number(numbers, 8);
+    let times = number(numbers, 9);
+    let scanned = depth2::scan_cut(
+        size,
+        terms,
+        values,
+        codes,
+        order,
+        cuts,
+        counts,
+        column,
+        cut,
+        times,
+        scratch,
+    );
+    let words = scan_words(scanned);
     write(answer, &words);
 }

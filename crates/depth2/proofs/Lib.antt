@@ -4,6 +4,7 @@ pub mod Lent
 pub mod Marks
 pub mod Alike
 pub mod Try
+pub mod Again
 pub mod Queueing
 pub mod Places
 pub mod Steps

@@ -4,4 +4,5 @@ pub mod Table
 pub mod Lent
 pub mod Ready
 pub mod Course
+pub mod CutScan
 pub mod Laws

@@ -40,6 +40,7 @@ ghost use Rattle.depth2.specs.Search.{searched, searchOf, scratchOf};
 ghost use Rattle.depth2.specs.Lent.{tableOf, ringOf, marksOf, Enough, Became};
 ghost use Rattle.depth2.specs.declared.Standing.{Standing};
 ghost use Rattle.depth2.specs.Course.{Attempted, Matches, Stands, Turning, Attempting, Parting, Pushing, Queued, prunedOf, partsQueued, improvedBy, endsColumn, mostTries, standingAfter, standingOf, Opened, Entering, Searching, columnAfter, answerHeld};
+ghost use Rattle.depth2.specs.CutScan.{scannedAt, scannedOf};
 ghost use Rattle.depth2.specs.Ready.{Marking, MarkedTo, MarkingCut, placeBefore, Cutting, Trying, PlacedIn, Whole};
 
 // The lent words in words a row: first the errors of the cuts tried, then the ring of intervals, then the side marks, then one to spare.
@@ -802,6 +803,149 @@ pub fn search(
             let words = WORDS_PER_ROW * size.rows;
             clear(scratch, words);
             answer_of(standing)
+        }
+    }
+}
+
+// ---- one cut by itself
+
+// The two sides of a cut; or why there are none, with 0 for a column or a cut number that is not there.
+pub enum Scanned {
+    TurnedBack { number: u32, place: usize },
+    Done(Sides),
+}
+
+// A cut tried that many times over, once at least.
+fn try_times(
+    size: Size,
+    support: u32,
+    values: &[f64],
+    codes: &[u8],
+    order: &[u16],
+    cuts: &[u16],
+    column: usize,
+    cut: usize,
+    times: u32,
+    scratch: &mut [u32],
+) -> Tree
+    requires { ⌜ Trying size (now values) (now codes) (now order) (now cuts) column cut (now scratch) ⌝ }
+    ensures { λ r. ⌜ ((counts : List ℕ) → r ≡ triedTree (sheetOf size (now (values .entry)) (now (codes .entry)) (now (order .entry)) (now (cuts .entry)) counts) support column cut) ⌝ }
+    ensures lent { λ _. ⌜ Became (size .rows) (now (scratch .entry)) (now (scratch .exit)) (tableOf (size .rows) (now (scratch .exit))) (ringOf (size .rows) (now (scratch .exit))) ⌝ }
+{
+    let mut tree = try_cut(
+        size,
+        support,
+        values,
+        codes,
+        order,
+        cuts,
+        column,
+        cut,
+        scratch,
+    );
+    let mut done: u32 = 1;
+    while done < times {
+        tree = try_cut(
+            size,
+            support,
+            values,
+            codes,
+            order,
+            cuts,
+            column,
+            cut,
+            scratch,
+        );
+        done += 1;
+    }
+    tree
+}
+
+// A cut of an accepted sheet, if there is one of that column and number.
+fn scan_listed(
+    size: Size,
+    support: u32,
+    values: &[f64],
+    codes: &[u8],
+    order: &[u16],
+    cuts: &[u16],
+    counts: &[u16],
+    column: usize,
+    cut: usize,
+    times: u32,
+    scratch: &mut [u32],
+) -> Scanned
+    requires { ⌜ Whole (sheetOf size (now values) (now codes) (now order) (now cuts) (now counts)) × Enough (size .rows) (now scratch) ⌝ }
+    ensures { λ r. ⌜ r ≡ scannedAt (sheetOf size (now (values .entry)) (now (codes .entry)) (now (order .entry)) (now (cuts .entry)) (now (counts .entry))) support column cut ⌝ }
+    ensures lent { λ _. ⌜ Became (size .rows) (now (scratch .entry)) (now (scratch .exit)) (tableOf (size .rows) (now (scratch .exit))) (ringOf (size .rows) (now (scratch .exit))) ⌝ }
+{
+    if size.columns <= column {
+        return Scanned::TurnedBack {
+            number: 0,
+            place: 0,
+        };
+    }
+    let listed = wide(counts[column]);
+    if listed <= cut {
+        return Scanned::TurnedBack {
+            number: 0,
+            place: 0,
+        };
+    }
+    let tree = try_times(
+        size,
+        support,
+        values,
+        codes,
+        order,
+        cuts,
+        column,
+        cut,
+        times,
+        scratch,
+    );
+    let left = tree.left;
+    let right = tree.right;
+    Scanned::Done(Sides { left, right })
+}
+
+// The two sides of one cut: the input check, then the scan that many times over, then the lent words cleared. The answer does not depend on how often.
+pub fn scan_cut(
+    size: Size,
+    terms: Terms,
+    values: &[f64],
+    codes: &[u8],
+    order: &[u16],
+    cuts: &[u16],
+    counts: &[u16],
+    column: usize,
+    cut: usize,
+    times: u32,
+    scratch: &mut [u32],
+) -> Scanned
+    ensures answer { λ r. ⌜ r ≡ scannedOf (sheetOf size (now (values .entry)) (now (codes .entry)) (now (order .entry)) (now (cuts .entry)) (now (counts .entry))) terms column cut (length (now (scratch .entry))) ⌝ }
+    ensures lent { λ _. ⌜ now (scratch .exit) ≡ scratchOf (sheetOf size (now (values .entry)) (now (codes .entry)) (now (order .entry)) (now (cuts .entry)) (now (counts .entry))) terms (now (scratch .entry)) ⌝ }
+{
+    let checked = sheet::check(size, terms, values, codes, order, cuts, counts, scratch);
+    match checked {
+        Checked::Refused(number, place) => Scanned::TurnedBack { number, place },
+        Checked::Accepted => {
+            let scanned = scan_listed(
+                size,
+                terms.support,
+                values,
+                codes,
+                order,
+                cuts,
+                counts,
+                column,
+                cut,
+                times,
+                scratch,
+            );
+            let lent = WORDS_PER_ROW * size.rows;
+            clear(scratch, lent);
+            scanned
         }
     }
 }

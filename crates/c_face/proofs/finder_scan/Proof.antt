@@ -1,0 +1,85 @@
+-- `c_face::finder_scan` meets its contract: it writes what the scan of the cut answers for the numbers read. Assumes nothing.
+use mathlib.Core.Path.{ap, _∙_}
+use Prim.Native.Nat.{ℕ}
+use mathlib.Core.List.{List}
+use lib.ListN.{length, getD}
+use Rattle.sheet.specs.declared.Terms.{Terms}
+use Rattle.sheet.specs.Sheet.{Sheet}
+use Rattle.depth2.specs.Search.{scratchOf}
+use Rattle.depth2.specs.CutScan.{scannedOf}
+use Rattle.c_face.specs.Face.{sheetIn, termsIn, written}
+use Rattle.c_face.specs.Rule.{scanWords}
+use Rattle.c_face.proofs.Calling.{same-asked}
+use borrow.Author.Needs.{needs}
+use Rattle.c_face.proofs.finder_scan.Statement.{statement}
+use Rattle.c_face.proofs.finder_scan.Tie as tie
+
+size-in-requires : tie.Need-size-in-requires
+size-in-requires c κs = search needs
+
+terms-in-requires : tie.Need-terms-in-requires
+terms-in-requires c κs = search needs
+
+size-number-requires : tie.Need-size-number-requires
+size-number-requires c κs = search needs
+
+size-number-requires-2 : tie.Need-size-number-requires-2
+size-number-requires-2 c κs = search needs
+
+number-requires : tie.Need-number-requires
+number-requires c κs = search needs
+
+scan-cut-requires : tie.Need-scan-cut-requires
+scan-cut-requires c κs = search needs
+
+scan-words-requires : tie.Need-scan-words-requires
+scan-words-requires c κs = search needs
+
+slice-aggregate-write : tie.Need-slice-aggregate-write
+slice-aggregate-write c = search needs
+
+write-requires : tie.Need-write-requires
+write-requires c κs = search needs
+
+same-length : tie.Need-same-length
+same-length c = search needs
+
+same-length-2 : tie.Need-same-length-2
+same-length-2 c = search needs
+
+returns : tie.Need-returns
+returns c =
+    let f = c .before .before .before .before .before .before .before .before in
+    let a = c .before .before .before .before .before .before .before .before .before .before .before .before .before .before .before .before .before .before .before .before .before .before .before .args in
+    let size = f .before .before .before .before .before .before .size-in .ensures in
+    let terms = f .before .before .before .before .before .terms-in .ensures in
+    let column = f .before .before .before .before .size-number in
+    let cut = f .before .before .before .size-number2 in
+    let words : ℕ = length (a .scratch .now) in
+    let s : Sheet = sheetIn (a .numbers .now) (a .values .now) (a .codes .now) (a .order .now) (a .cuts .now) (a .counts .now) in
+    let t : Terms = termsIn (a .numbers .now) in
+    let found =
+    f .scan-cut .ensures .0
+    ∙ same-asked (λ (s : Sheet) (t : Terms). scannedOf s t (column .result) (cut .result) words) (a .values .now) (a .codes .now) (a .order .now) (a .cuts .now) (a .counts .now) size terms
+    ∙ ap (λ (n : ℕ). scannedOf s t n (cut .result) words) (column .ensures)
+    ∙ ap (λ (n : ℕ). scannedOf s t (getD (a .numbers .now) 7 0) n words) (cut .ensures) in (
+      c .before .before .write .ensures ∙ ap (λ (k : List ℕ). written k (a .answer .now)) (c .before .before .before .before .before .scan-words .ensures ∙ ap scanWords found),
+      f .scan-cut .ensures .1 ∙ same-asked (λ (s : Sheet) (t : Terms). scratchOf s t (a .scratch .now)) (a .values .now) (a .codes .now) (a .order .now) (a .cuts .now) (a .counts .now) size terms,
+    )
+
+pub finder-scan-spec : {M : Type 1} → statement M
+finder-scan-spec =
+    tie.close
+    (tie.spec
+    size-in-requires
+    terms-in-requires
+    size-number-requires
+    size-number-requires-2
+    number-requires
+    scan-cut-requires
+    scan-words-requires
+    slice-aggregate-write
+    write-requires
+    same-length
+    same-length-2
+    returns)
