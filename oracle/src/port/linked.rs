@@ -1,14 +1,20 @@
 //! The proved library's C functions, and what they owe of the words that they are lent.
+#[cfg(any(feature = "search", feature = "scan"))]
+use crate::answer::Side;
 #[cfg(feature = "search")]
-use crate::answer::{Answer, Side, Tree};
+use crate::answer::{Answer, Tree};
 use crate::port::Turned;
+#[cfg(feature = "scan")]
+use crate::port::{Cut, Scanned};
 use crate::sheet::Sheet;
-#[cfg(any(feature = "search", feature = "check"))]
+#[cfg(any(feature = "search", feature = "check", feature = "scan"))]
 use crate::sheet::SCRATCH_PER_ROW;
 
 #[cfg(feature = "search")]
 const WORDS: usize = 19;
-#[cfg(feature = "search")]
+#[cfg(feature = "scan")]
+const SCAN_WORDS: usize = 15;
+#[cfg(any(feature = "search", feature = "scan"))]
 const SIDE_WORDS: usize = 7;
 /// The words that the check and the preparer answer.
 const TURNED_WORDS: usize = 3;
@@ -18,45 +24,70 @@ const PAST: usize = 5;
 /// The highest reason after which scratch is untouched.
 const UNTOUCHED: u8 = 4;
 
-extern "C" {
+/// Declares functions that take a sheet: its numbers, its lists, scratch and an answer.
+macro_rules! of_a_sheet {
+    ($($(#[$feature:meta])* $name:ident),*) => {
+        extern "C" {
+            $($(#[$feature])*
+            fn $name(
+                numbers: *const u32,
+                numbers_length: usize,
+                values: *const f64,
+                values_length: usize,
+                labels: *const u8,
+                labels_length: usize,
+                order: *const u16,
+                order_length: usize,
+                cuts: *const u16,
+                cuts_length: usize,
+                counts: *const u16,
+                counts_length: usize,
+                scratch: *mut u32,
+                scratch_length: usize,
+                answer: *mut u64,
+                answer_length: usize,
+            );)*
+        }
+    };
+}
+
+of_a_sheet!(
     #[cfg(feature = "search")]
-    fn finder_search(
-        numbers: *const u32,
-        numbers_length: usize,
-        values: *const f64,
-        values_length: usize,
-        labels: *const u8,
-        labels_length: usize,
-        order: *const u16,
-        order_length: usize,
-        cuts: *const u16,
-        cuts_length: usize,
-        counts: *const u16,
-        counts_length: usize,
-        scratch: *mut u32,
-        scratch_length: usize,
-        answer: *mut u64,
-        answer_length: usize,
-    );
+    finder_search,
     #[cfg(feature = "check")]
-    fn finder_check(
-        numbers: *const u32,
-        numbers_length: usize,
-        values: *const f64,
-        values_length: usize,
-        labels: *const u8,
-        labels_length: usize,
-        order: *const u16,
-        order_length: usize,
-        cuts: *const u16,
-        cuts_length: usize,
-        counts: *const u16,
-        counts_length: usize,
-        scratch: *mut u32,
-        scratch_length: usize,
-        answer: *mut u64,
-        answer_length: usize,
-    );
+    finder_check,
+    #[cfg(feature = "scan")]
+    finder_scan
+);
+
+/// Calls one of them.
+macro_rules! asked {
+    ($function:ident, $numbers:expr, $sheet:expr, $scratch:expr, $answer:expr) => {
+        // SAFETY: each pointer goes with the length of the slice that it comes from, and no two of the slices overlap.
+        unsafe {
+            $function(
+                $numbers.as_ptr(),
+                $numbers.len(),
+                $sheet.values.as_ptr(),
+                $sheet.values.len(),
+                $sheet.codes.as_ptr(),
+                $sheet.codes.len(),
+                $sheet.order.as_ptr(),
+                $sheet.order.len(),
+                $sheet.cuts.as_ptr(),
+                $sheet.cuts.len(),
+                $sheet.counts.as_ptr(),
+                $sheet.counts.len(),
+                $scratch.as_mut_ptr(),
+                $scratch.len(),
+                $answer.as_mut_ptr(),
+                $answer.len(),
+            )
+        }
+    };
+}
+
+extern "C" {
     #[cfg(feature = "prepare")]
     fn finder_prepare(
         numbers: *const u32,
@@ -82,28 +113,8 @@ fn numbers(sheet: &Sheet) -> [u32; 7] {
 #[cfg(feature = "search")]
 pub fn call(sheet: &Sheet, scratch: &mut [u32]) -> [u64; WORDS] {
     let numbers = numbers(sheet);
-    let mut answer = [0; WORDS];
-    // SAFETY: each pointer goes with the length of the slice that it comes from, and no two of the slices overlap.
-    unsafe {
-        finder_search(
-            numbers.as_ptr(),
-            numbers.len(),
-            sheet.values.as_ptr(),
-            sheet.values.len(),
-            sheet.codes.as_ptr(),
-            sheet.codes.len(),
-            sheet.order.as_ptr(),
-            sheet.order.len(),
-            sheet.cuts.as_ptr(),
-            sheet.cuts.len(),
-            sheet.counts.as_ptr(),
-            sheet.counts.len(),
-            scratch.as_mut_ptr(),
-            scratch.len(),
-            answer.as_mut_ptr(),
-            answer.len(),
-        );
-    }
+    let mut answer = [u64::MAX; WORDS];
+    asked!(finder_search, numbers, sheet, scratch, answer);
     answer
 }
 
@@ -119,8 +130,33 @@ pub fn search(sheet: &Sheet, words: usize) -> Result<Answer, String> {
     Ok(answer)
 }
 
+/// The words of a scan of one cut.
+#[cfg(feature = "scan")]
+pub fn call_scan(sheet: &Sheet, cut: Cut, scratch: &mut [u32]) -> [u64; SCAN_WORDS] {
+    let [rows, columns, labels, support, gap, error, bound] = numbers(sheet);
+    let numbers = [rows, columns, labels, support, gap, error, bound, cut.column as u32, cut.number as u32, cut.times];
+    let mut answer = [u64::MAX; SCAN_WORDS];
+    asked!(finder_scan, numbers, sheet, scratch, answer);
+    answer
+}
+
+#[cfg(feature = "scan")]
+pub fn scan(sheet: &Sheet, cut: Cut, words: usize) -> Result<Scanned, String> {
+    let mut scratch = vec![FILL; words + PAST];
+    let answer = call_scan(sheet, cut, &mut scratch[..words]);
+    let scanned = match answer {
+        [0, number, place, rest @ ..] if rest == [0; SCAN_WORDS - TURNED_WORDS] => Err((number as u8, place as usize)),
+        [1, ..] => Ok([side(&answer[1..1 + SIDE_WORDS])?, side(&answer[1 + SIDE_WORDS..])?]),
+        _ => return Err(format!("no answer {answer:?}")),
+    };
+    // 0 is for a cut that is not there, of a sheet that the check lets through
+    let refused = scanned.err().map(|(number, _)| number).filter(|&number| number > 0);
+    owed(&scratch, sheet, refused)?;
+    Ok(scanned)
+}
+
 /// "After search reasons 1 to 4 scratch is untouched; after every other search call the first 8·rows words are 0 and the rest untouched."
-#[cfg(any(feature = "search", feature = "check"))]
+#[cfg(any(feature = "search", feature = "check", feature = "scan"))]
 fn owed(scratch: &[u32], sheet: &Sheet, number: Option<u8>) -> Result<(), String> {
     let untouched = number.is_some_and(|number| number <= UNTOUCHED);
     let cleared = if untouched { 0 } else { SCRATCH_PER_ROW * sheet.numbers.rows };
@@ -145,27 +181,7 @@ pub fn check(sheet: &Sheet, words: usize) -> Turned {
     let mut scratch = vec![FILL; words + PAST];
     let numbers = numbers(sheet);
     let mut answer = [u64::MAX; TURNED_WORDS];
-    // SAFETY: each pointer goes with the length of the slice that it comes from, and no two of the slices overlap.
-    unsafe {
-        finder_check(
-            numbers.as_ptr(),
-            numbers.len(),
-            sheet.values.as_ptr(),
-            sheet.values.len(),
-            sheet.codes.as_ptr(),
-            sheet.codes.len(),
-            sheet.order.as_ptr(),
-            sheet.order.len(),
-            sheet.cuts.as_ptr(),
-            sheet.cuts.len(),
-            sheet.counts.as_ptr(),
-            sheet.counts.len(),
-            scratch.as_mut_ptr(),
-            words,
-            answer.as_mut_ptr(),
-            answer.len(),
-        );
-    }
+    asked!(finder_check, numbers, sheet, scratch[..words], answer);
     let turned = turned(&answer)?;
     owed(&scratch, sheet, turned.map(|(number, _)| number))?;
     Ok(turned)
@@ -227,26 +243,28 @@ pub fn prepare(sheet: &Sheet, wanted: Option<&Sheet>) -> Turned {
     }
 }
 
+/// The words that a case does not use are 0.
 #[cfg(feature = "search")]
 fn answer(words: &[u64; WORDS]) -> Result<Answer, String> {
     let number = |at: usize| words[at] as usize;
+    let short = words[TURNED_WORDS..].iter().all(|&word| word == 0);
     match words[0] {
-        0 => Ok(Answer::TurnedBack { number: words[1] as u8, place: number(2) }),
-        1 => Ok(Answer::Kept { error: number(1), tried: number(2) }),
+        0 if short => Ok(Answer::TurnedBack { number: words[1] as u8, place: number(2) }),
+        1 if short => Ok(Answer::Kept { error: number(1), tried: number(2) }),
         2 => {
             let sides = [side(&words[5..5 + SIDE_WORDS])?, side(&words[5 + SIDE_WORDS..])?];
             Ok(Answer::Found { error: number(1), tried: number(2), tree: Tree { column: number(3), threshold: words[4], sides } })
         }
-        kind => Err(format!("no answer of kind {kind}")),
+        _ => Err(format!("no answer {words:?}")),
     }
 }
 
-#[cfg(feature = "search")]
+#[cfg(any(feature = "search", feature = "scan"))]
 fn side(words: &[u64]) -> Result<Side, String> {
     let number = |at: usize| words[at] as usize;
-    match words[0] {
-        0 => Ok(Side::Leaf { label: number(1), error: number(2) }),
-        1 => Ok(Side::Split { column: number(1), threshold: words[2], labels: [number(3), number(4)], errors: [number(5), number(6)] }),
-        kind => Err(format!("no side of kind {kind}")),
+    match words {
+        [0, _, _, 0, 0, 0, 0] => Ok(Side::Leaf { label: number(1), error: number(2) }),
+        [1, ..] => Ok(Side::Split { column: number(1), threshold: words[2], labels: [number(3), number(4)], errors: [number(5), number(6)] }),
+        _ => Err(format!("no side {words:?}")),
     }
 }
