@@ -15,8 +15,8 @@ use Rattle.tree.specs.declared.Tree.{Tree}
 use Rattle.tree.specs.declared.Answer.{Answer}
 use Rattle.tree.specs.declared.Answer.the-variants.{TurnedBack, Kept, Found}
 use Rattle.leaves_score.specs.declared.Sides.{Sides}
-use Rattle.depth2.specs.declared.Scanned.{Scanned}
-use Rattle.depth2.specs.declared.Scanned.the-variants as scanned
+use Rattle.cut_scan.specs.declared.Scanned.{Scanned}
+use Rattle.cut_scan.specs.declared.Scanned.the-variants as scanned
 use Rattle.c_face.specs.Face.{written}
 use Rattle.c_face.specs.Rule.{sideWords, foundWords, shortWords, searchWords, bothWords, scanWords}
 

@@ -9,10 +9,10 @@ use Rattle.tree.specs.declared.Tree.{Tree}
 use Rattle.tree.specs.declared.Answer.{Answer}
 use Rattle.tree.specs.declared.Answer.the-variants.{TurnedBack, Kept, Found}
 use Rattle.leaves_score.specs.declared.Sides.{Sides}
-use Rattle.depth2.specs.declared.Scanned.{Scanned}
-use Rattle.depth2.specs.declared.Scanned.the-variants as scanned
+use Rattle.cut_scan.specs.declared.Scanned.{Scanned}
+use Rattle.cut_scan.specs.declared.Scanned.the-variants as scanned
 use Rattle.depth2.specs.Search.{searchOf}
-use Rattle.depth2.specs.CutScan.{scannedOf}
+use Rattle.cut_scan.specs.CutScan.{scannedOf}
 use Rattle.c_face.specs.Face.{sheetIn, termsIn}
 
 -- "A side is a leaf (label, error) or a split (column, threshold, two labels, two errors)": seven words, 0 where a leaf says nothing

@@ -6,7 +6,7 @@ ghost use Rattle.sheet.specs.Check.{scratchAfter};
 ghost use Rattle.depth2.specs.Search.{scratchOf};
 ghost use Rattle.c_face.specs.Face.{written, told, preparedTold, checkedTold, prepareAnswer, sizeIn, termsIn, sheetIn, checkAnswer};
 ghost use Rattle.c_face.specs.Rule.{sideWords, foundWords, shortWords, searchWords, searchAnswer, bothWords, scanWords, scanAnswer};
-use depth2::Scanned;
+use cut_scan::Scanned;
 use leaves_score::Sides;
 use prepare::Prepared;
 use sheet::Checked;
@@ -365,7 +365,7 @@ pub extern "C" fn finder_scan(
     let column = size_number(numbers, 7);
     let cut = size_number(numbers, 8);
     let times = number(numbers, 9);
-    let scanned = depth2::scan_cut(
+    let scanned = cut_scan::scan_cut(
         size,
         terms,
         values,

@@ -21,7 +21,7 @@ use Rattle.leaves_score.specs.Root.{errorsAt}
 use Rattle.side_laws.specs.Root.{Moved}
 use Rattle.side_laws.proofs.Cuts.{ascends}
 use Rattle.side_laws.proofs.Metric.{moves}
-use Rattle.depth2.specs.Try.{columnOf}
+use Rattle.cut_try.specs.Try.{columnOf}
 
 module _ (s : Sheet) (sound : Sound s) (t : Terms) (c : ℕ) (here : c < s .columns) where
   pub listed : length (placesOf s c) ≡ countOf s c

@@ -13,7 +13,7 @@ use Rattle.column_search.specs.Search.{State, columnRun}
 use Rattle.column_search.specs.Laws.{Lowered}
 use Rattle.column_search.proofs.Error.{lowers}
 use Rattle.column_search.proofs.Optimal.{optimal}
-use Rattle.depth2.specs.Try.{columnOf}
+use Rattle.cut_try.specs.Try.{columnOf}
 use Rattle.depth2.specs.Search.{Progress, joined, afterColumn, searchColumns, searched}
 use Rattle.depth2.specs.Laws.{cutError}
 use Rattle.certificate.proofs.Column.{feasible-run, metric, all-feasible}

@@ -26,11 +26,11 @@ use Rattle.side_laws.proofs.Cuts.{at-cuts}
 use Rattle.side_laws.proofs.Root.{root-least, cut-mistakes}
 use Rattle.judge.specs.declared.Judgement.{Judgement}
 use Rattle.judge.specs.Mistakes.{rootLeftward, rootRightward, judgementOf}
-use Rattle.depth2.specs.Try.{treeAt}
+use Rattle.cut_try.specs.Try.{treeAt}
 use Rattle.depth2.specs.Search.{Progress, searched, answerOf, answerAfter, searchOf}
 use Rattle.depth2.specs.Laws.{cutError, MakesError, Bettered}
 use Rattle.depth2.proofs.Laws.{error-falls}
-use Rattle.depth2.proofs.Answer.{accepted-parts}
+use Rattle.cut_try.proofs.Accepted.{accepted-parts}
 use Rattle.certificate.specs.Certificate.{NothingBetter, NeverWorse, AsItSays, TreeTells, Certified}
 use Rattle.certificate.proofs.Progress.{searched-best}
 use Rattle.certificate.proofs.Judging.{Accepts, accepts, proper, tree-sum, left-rows, right-rows, same-sheet, taken, told-wrong}

@@ -24,12 +24,12 @@ use Rattle.column_search.proofs.Error.{lowers}
 use Rattle.depth2.specs.declared.Held.the-variants.{Empty}
 use Rattle.depth2.specs.declared.Standing.{Standing}
 use Rattle.depth2.specs.declared.Course.{Course}
-use Rattle.depth2.specs.Lent.{ringOf, Enough, Became}
-use Rattle.depth2.specs.Ready.{Whole}
-use Rattle.depth2.specs.Try.{columnOf}
+use Rattle.cut_try.specs.Lent.{ringOf, Enough, Became}
+use Rattle.cut_try.specs.Ready.{Whole}
+use Rattle.cut_try.specs.Try.{columnOf}
 use Rattle.depth2.specs.Search.{Progress, bestAfter, joined, afterColumn, searchColumns, searched}
 use Rattle.depth2.specs.Course.{heldAfter, standingAfter, heldOf, standingOf, feasibleAt, firstAt, lastAt, Stands, mostTries, Begun, Pushing, Opened, columnAfter, Between}
-use Rattle.depth2.proofs.Lent.{became-enough}
+use Rattle.cut_try.proofs.Lent.{became-enough}
 use Rattle.depth2.proofs.Queueing.{ring-slots}
 use Rattle.depth2.proofs.Turns.{feasible-cuts, end-listed}
 

@@ -13,11 +13,11 @@ use Rattle.column_search.specs.Search.{State, columnRun, triedOf}
 use Rattle.column_search.specs.Laws.{Lowered}
 use Rattle.column_search.proofs.Count.{tries}
 use Rattle.column_search.proofs.Error.{lowers}
-use Rattle.depth2.specs.Ready.{Whole}
+use Rattle.cut_try.specs.Ready.{Whole}
 use Rattle.leaves_score.specs.Root.{errorsAt}
 use Rattle.tree.specs.declared.Tree.{Tree}
 use Rattle.tree.specs.Answer.{sideError, ruleOf}
-use Rattle.depth2.specs.Try.{columnOf, treeAt}
+use Rattle.cut_try.specs.Try.{columnOf, treeAt}
 use Rattle.depth2.specs.Search.{Progress, bestAfter, joined, afterColumn, searchColumns, searched, answerOf}
 use Rattle.depth2.specs.Course.{feasibleAt, firstAt, lastAt}
 use Rattle.depth2.specs.Laws.{feasibleCount, mostTried, TriesSummed, MakesError, Bettered, ErrorFalls, FoundExactly, OutcomesCoincide}

@@ -1,10 +1,5 @@
 -- Laws of the search, for other crates to cite.
 pub mod Table
-pub mod Lent
-pub mod Marks
-pub mod Alike
-pub mod Try
-pub mod Again
 pub mod Queueing
 pub mod Places
 pub mod Steps

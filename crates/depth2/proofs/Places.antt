@@ -12,8 +12,8 @@ use Rattle.sheet.specs.declared.Size.{Size}
 use Rattle.sheet.specs.Sheet.{Sheet, countOf, placeOf, placesOf}
 use Rattle.sheet.specs.Check.{sheetOf}
 use Rattle.cuts.specs.Lookups.{place, Ascending}
-use Rattle.depth2.specs.Ready.{Whole, PlacedIn}
-use Rattle.depth2.proofs.Try.{inside}
+use Rattle.cut_try.specs.Ready.{Whole, PlacedIn}
+use Rattle.cut_try.proofs.Try.{inside}
 
 -- a part of a list, entry by entry
 window : (xs : List ℕ) (base n : ℕ) → base + n ≤ length xs → take n (drop base xs) ≡ table (λ k. getD xs (base + k) 0) n

@@ -24,9 +24,9 @@ use Rattle.interval_queue.proofs.Waiting.{push-appends}
 use Rattle.column_search.specs.Search.{part, upperPart, lowerPart}
 use Rattle.column_search.specs.Laws.{IfCut}
 use Rattle.column_search.proofs.Steps.{sides}
-use Rattle.depth2.specs.Lent.{tableOf, ringOf, Enough, Became}
+use Rattle.cut_try.specs.Lent.{tableOf, ringOf, Enough, Became}
 use Rattle.depth2.specs.Course.{Pushing, Queued, Parting, partsQueued}
-use Rattle.depth2.proofs.Lent.{ring-length, became-enough}
+use Rattle.cut_try.proofs.Lent.{ring-length, became-enough}
 
 -- as many slots as rows
 pub ring-slots : (rows : ℕ) (xs : List ℕ) → Enough rows xs → slotsOf (ringOf rows xs) ≡ rows

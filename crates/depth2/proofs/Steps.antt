@@ -31,10 +31,10 @@ use Rattle.depth2.specs.declared.Held.the-variants.{Rule}
 use Rattle.depth2.specs.declared.Standing.{Standing}
 use Rattle.depth2.specs.declared.Course.{Course}
 use Rattle.depth2.specs.declared.Attempt.{Attempt}
-use Rattle.depth2.specs.Lent.{tableOf, ringOf, Enough, Became}
-use Rattle.depth2.specs.Try.{columnOf, treeAt, triedTree}
+use Rattle.cut_try.specs.Lent.{tableOf, ringOf, Enough, Became}
+use Rattle.cut_try.specs.Try.{columnOf, treeAt, triedTree}
 use Rattle.depth2.specs.Course.{heldAfter, standingAfter, Attempted, Matches, improvedBy, endsColumn, partsQueued}
-use Rattle.depth2.proofs.Lent.{table-length}
+use Rattle.cut_try.proofs.Lent.{table-length}
 
 -- ---- the table
 

@@ -43,11 +43,11 @@ use Rattle.column_search.proofs.Steps.{shrunk-in}
 use Rattle.depth2.specs.declared.Standing.{Standing}
 use Rattle.depth2.specs.declared.Course.{Course}
 use Rattle.depth2.specs.declared.Attempt.{Attempt}
-use Rattle.depth2.specs.Lent.{tableOf, ringOf}
-use Rattle.depth2.specs.Ready.{Whole, Trying}
-use Rattle.depth2.specs.Try.{columnOf}
+use Rattle.cut_try.specs.Lent.{tableOf, ringOf}
+use Rattle.cut_try.specs.Ready.{Whole, Trying}
+use Rattle.cut_try.specs.Try.{columnOf}
 use Rattle.depth2.specs.Course.{standingAfter, feasibleAt, firstAt, lastAt, Matches, Stands, mostTries, Begun, prunedOf, Attempted, Parting, Attempting, Numbered}
-use Rattle.depth2.proofs.Lent.{became-enough}
+use Rattle.cut_try.proofs.Lent.{became-enough}
 use Rattle.depth2.proofs.Places.{places-count, places-ascend, places-low}
 
 -- ---- the middle

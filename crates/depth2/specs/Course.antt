@@ -40,9 +40,9 @@ use Rattle.depth2.specs.declared.Held.the-variants.{Empty, Rule}
 use Rattle.depth2.specs.declared.Standing.{Standing}
 use Rattle.depth2.specs.declared.Course.{Course}
 use Rattle.depth2.specs.declared.Attempt.{Attempt}
-use Rattle.depth2.specs.Lent.{tableOf, ringOf, Enough, Became}
-use Rattle.depth2.specs.Ready.{Whole}
-use Rattle.depth2.specs.Try.{columnOf, treeAt, triedTree}
+use Rattle.cut_try.specs.Lent.{tableOf, ringOf, Enough, Became}
+use Rattle.cut_try.specs.Ready.{Whole}
+use Rattle.cut_try.specs.Try.{columnOf, treeAt, triedTree}
 use Rattle.depth2.specs.Search.{Progress, searchColumns, searched}
 
 -- a cut of a list of n, if there is one

@@ -12,7 +12,7 @@ use Rattle.tree.specs.declared.Tree.{Tree}
 use Rattle.tree.specs.declared.Answer.{Answer}
 use Rattle.tree.specs.Answer.{sideError, ruleOf}
 use Rattle.leaves_score.specs.Root.{errorsAt}
-use Rattle.depth2.specs.Ready.{Whole}
+use Rattle.cut_try.specs.Ready.{Whole}
 use Rattle.depth2.specs.Search.{Progress, afterColumn, searched, answerOf, searchOf, scratchOf}
 use Rattle.depth2.specs.Course.{feasibleAt}
 

@@ -15,7 +15,7 @@ use Rattle.tree.specs.declared.Answer.the-variants.{TurnedBack, Kept, Found}
 use Rattle.cuts.specs.declared.Run.{Run}
 use Rattle.cuts.specs.Feasible.{feasibleOf}
 use Rattle.column_search.specs.Search.{State, columnRun, triedOf}
-use Rattle.depth2.specs.Try.{columnOf, treeAt}
+use Rattle.cut_try.specs.Try.{columnOf, treeAt}
 
 -- The state between two columns: the current error, the column and number of the cut whose tree it is, if any, and the tries so far.
 pub record Progress : Type 0 where

@@ -1,30 +1,29 @@
 // The search of a whole sheet (depth2.rs): every column's cuts as the first question, the two-side scan below it.
+use cut_try::MARKS;
+use cut_try::RING;
 use interval_pruner::Bound;
 use interval_pruner::Shrunk;
 use interval_pruner::Tried;
 use interval_pruner::Zeros;
 use interval_queue::Popped;
 use interval_queue::Queue;
-use leaves_score::Sides;
 use sheet::Checked;
 use sheet::Size;
 use sheet::Terms;
 use sheet::WORDS_PER_ROW;
 use tree::Answer;
-use tree::Side;
 use tree::Tree;
 ghost use mathlib.Core.Path.{_≡_};
 ghost use Prim.Native.Nat.{ℕ, _+_, _-_, _*_, _≤_, _<_, min};
 ghost use mathlib.Core.List.{List, [], _++_};
-ghost use lib.Dec.{leb, ltb};
-ghost use lib.Ieee.{Float, nan};
-ghost use lib.ListN.{length, getD};
+ghost use lib.Dec.{leb};
+ghost use lib.Ieee.{Float};
+ghost use lib.ListN.{length};
 ghost use Rattle.basics.specs.Choice.{pick};
 ghost use Rattle.sheet.specs.Check.{sheetOf, cleared};
 ghost use Rattle.basics.specs.Lists.{total};
 ghost use Rattle.sheet.specs.Limits.{mostRows, mostColumns};
 ghost use Rattle.sheet.specs.Sheet.{placesOf};
-ghost use Rattle.tree.specs.Answer.{sideError};
 ghost use Rattle.interval_pruner.specs.Pruner.{zerosAfter, recordedAfter};
 ghost use Rattle.cuts.specs.Lookups.{Ascending};
 ghost use Rattle.interval_pruner.specs.Column.{columnOf};
@@ -32,23 +31,12 @@ ghost use Rattle.interval_queue.specs.Ring.{contents, popped, pushed, pushedWor
 ghost use Rattle.interval_queue.specs.Laws.{Sane};
 ghost use Rattle.column_search.specs.Search.{State, part, tryCut, columnRun};
 ghost use Rattle.column_search.specs.Loop.{weight};
-ghost use Rattle.leaves_score.specs.Scan.{sidesOf};
-ghost use Rattle.leaves_score.specs.Root.{cutThreshold};
-ghost use Rattle.leaves_score.specs.Lists.{goLeft, Scannable};
-ghost use Rattle.depth2.specs.Try.{triedTree, columnOf as columnIn};
+ghost use Rattle.cut_try.specs.Try.{columnOf as columnIn};
 ghost use Rattle.depth2.specs.Search.{searched, searchOf, scratchOf};
-ghost use Rattle.depth2.specs.Lent.{tableOf, ringOf, marksOf, Enough, Became};
+ghost use Rattle.cut_try.specs.Lent.{tableOf, ringOf, Enough, Became};
 ghost use Rattle.depth2.specs.declared.Standing.{Standing};
 ghost use Rattle.depth2.specs.Course.{Attempted, Matches, Stands, Turning, Attempting, Parting, Pushing, Queued, prunedOf, partsQueued, improvedBy, endsColumn, mostTries, standingAfter, standingOf, Opened, Entering, Searching, columnAfter, answerHeld};
-ghost use Rattle.depth2.specs.CutScan.{scannedAt, scannedOf};
-ghost use Rattle.depth2.specs.Ready.{Marking, MarkedTo, MarkingCut, placeBefore, Cutting, Trying, PlacedIn, Whole};
-
-// The lent words in words a row: first the errors of the cuts tried, then the ring of intervals, then the side marks, then one to spare.
-const RING: usize = 2;
-
-const MARKS: usize = 6;
-
-const SPARE: usize = 7;
+ghost use Rattle.cut_try.specs.Ready.{Trying, PlacedIn, Whole};
 
 // The first interval that waits.
 fn next_interval(rows: usize, queue: Queue, scratch: &[u32]) -> Popped
@@ -92,150 +80,6 @@ fn wide(x: u16) -> usize
     ensures { λ r. ⌜ r ≡ x ⌝ }
 {
     x as usize
-}
-
-// 0 for a place before the cut's, else 1.
-fn side_mark(i: usize, place: usize) -> u32
-    ensures { λ r. ⌜ r ≡ pick (ltb i place) 0 1 ⌝ }
-{
-    if i < place { 0 } else { 1 }
-}
-
-// Every row is marked with the side that it goes to: the rows placed before the cut go left.
-fn mark_sides(size: Size, order: &[u16], column: usize, place: usize, marks: &mut [u32])
-    requires { ⌜ Marking size (now order) column (now marks) ⌝ }
-    ensures { λ _. ⌜ length (now (marks .exit)) ≡ length (now (marks .entry)) ⌝ }
-    ensures marked { λ _. ⌜ MarkedTo size (now (order .entry)) column place (now (marks .exit)) (size .rows) ⌝ }
-{
-    let base = column * size.rows;
-    let mut i: usize = 0;
-    while i < size.rows {
-        let row = wide(order[base + i]);
-        let mark = side_mark(i, place);
-        marks[row] = mark;
-        i += 1;
-    }
-}
-
-// The value at a sorted place of the column whose entries start at base.
-fn value_at(values: &[f64], order: &[u16], base: usize, place: usize) -> f64
-    requires { ⌜ (base + place < length (now order)) × (base + getD (now order) (base + place) 0 < length (now values)) ⌝ }
-    ensures { λ r. ⌜ r ≡ getD (now (values .entry)) (base + getD (now (order .entry)) (base + place) 0) nan ⌝ }
-{
-    let row = wide(order[base + place]);
-    values[base + row]
-}
-
-// Where the lower value of a cut's threshold stands.
-fn preceding_place(cuts: &[u16], base: usize, cut: usize) -> usize
-    requires { ⌜ base + cut < length (now cuts) ⌝ }
-    ensures { λ r. ⌜ r ≡ placeBefore (now (cuts .entry)) base cut ⌝ }
-{
-    if cut == 0 {
-        return 0;
-    }
-    wide(cuts[base + cut - 1])
-}
-
-// The threshold of a cut as the first question.
-fn root_threshold(
-    size: Size,
-    values: &[f64],
-    order: &[u16],
-    cuts: &[u16],
-    column: usize,
-    cut: usize,
-) -> f64
-    requires { ⌜ Cutting size (now values) (now order) (now cuts) column cut ⌝ }
-    ensures { λ r. ⌜ ((codes counts : List ℕ) → r ≡ cutThreshold (sheetOf size (now (values .entry)) codes (now (order .entry)) (now (cuts .entry)) counts) column cut) ⌝ }
-{
-    let base = column * size.rows;
-    let from = preceding_place(cuts, base, cut);
-    let place = wide(cuts[base + cut]);
-    let lower = value_at(values, order, base, from);
-    let upper = value_at(values, order, base, place);
-    threshold::threshold_between(lower, upper)
-}
-
-// A side's error; a side has no more rows than the sheet.
-fn side_error(side: Side) -> u32
-    requires { ⌜ sideError side ≤ mostRows ⌝ }
-    ensures { λ r. ⌜ r ≡ sideError side ⌝ }
-{
-    match side {
-        Side::Leaf { label: _, error } => error,
-        Side::Split {
-            column: _,
-            threshold: _,
-            left: _,
-            right: _,
-            lost,
-            missed,
-        } => lost + missed,
-    }
-}
-
-// The rows' marks at a cut.
-fn mark_cut(size: Size, order: &[u16], cuts: &[u16], column: usize, cut: usize, scratch: &mut [u32])
-    requires { ⌜ MarkingCut size (now order) (now cuts) column cut (now scratch) ⌝ }
-    ensures { λ _. ⌜ Became (size .rows) (now (scratch .entry)) (now (scratch .exit)) (tableOf (size .rows) (now (scratch .entry))) (ringOf (size .rows) (now (scratch .entry))) ⌝ }
-    ensures marked { λ _. ⌜ MarkedTo size (now (order .entry)) column (getD (now (cuts .entry)) (column * size .rows + cut) 0) (marksOf (size .rows) (now (scratch .exit))) (size .rows) ⌝ }
-{
-    let rows = size.rows;
-    let base = column * rows;
-    let place = wide(cuts[base + cut]);
-    let from = MARKS * rows;
-    let to = SPARE * rows;
-    mark_sides(size, order, column, place, &mut scratch[from..to]);
-}
-
-// The best of each side, by the rows' marks.
-fn scan_sides(
-    size: Size,
-    support: u32,
-    values: &[f64],
-    codes: &[u8],
-    order: &[u16],
-    scratch: &[u32],
-) -> Sides
-    requires { ⌜ Enough (size .rows) (now scratch) × Scannable (sheetOf size (now values) (now codes) (now order) [] []) (marksOf (size .rows) (now scratch)) ⌝ }
-    ensures { λ r. ⌜ r ≡ sidesOf (sheetOf size (now (values .entry)) (now (codes .entry)) (now (order .entry)) [] []) support (goLeft (marksOf (size .rows) (now (scratch .entry)))) ⌝ }
-{
-    let rows = size.rows;
-    let from = MARKS * rows;
-    let to = SPARE * rows;
-    leaves_score::get_leaves_score(size, support, values, codes, order, &scratch[from..to])
-}
-
-// One cut as the first question: the tree that it makes.
-fn try_cut(
-    size: Size,
-    support: u32,
-    values: &[f64],
-    codes: &[u8],
-    order: &[u16],
-    cuts: &[u16],
-    column: usize,
-    cut: usize,
-    scratch: &mut [u32],
-) -> Tree
-    requires { ⌜ Trying size (now values) (now codes) (now order) (now cuts) column cut (now scratch) ⌝ }
-    ensures { λ r. ⌜ ((counts : List ℕ) → r ≡ triedTree (sheetOf size (now (values .entry)) (now (codes .entry)) (now (order .entry)) (now (cuts .entry)) counts) support column cut) ⌝ }
-    ensures lent { λ _. ⌜ Became (size .rows) (now (scratch .entry)) (now (scratch .exit)) (tableOf (size .rows) (now (scratch .entry))) (ringOf (size .rows) (now (scratch .entry))) ⌝ }
-{
-    let threshold = root_threshold(size, values, order, cuts, column, cut);
-    mark_cut(size, order, cuts, column, cut, scratch);
-    let sides = scan_sides(size, support, values, codes, order, scratch);
-    let left = sides.left;
-    let right = sides.right;
-    let error = side_error(left) + side_error(right);
-    Tree {
-        error,
-        column,
-        threshold,
-        left,
-        right,
-    }
 }
 
 // ---- one interval
@@ -419,7 +263,7 @@ fn try_and_keep(
     ensures { λ r. ⌜ ((counts : List ℕ) → Attempted (sheetOf size (now (values .entry)) (now (codes .entry)) (now (order .entry)) (now (cuts .entry)) counts) support column cut zeros (now (scratch .entry)) (now (scratch .exit)) r) ⌝ }
 {
     let rows = size.rows;
-    let tree = try_cut(
+    let tree = cut_try::try_cut(
         size,
         support,
         values,
@@ -436,8 +280,8 @@ fn try_and_keep(
         rows,
         zeros,
         cut,
-        side_error(left),
-        side_error(right),
+        cut_try::side_error(left),
+        cut_try::side_error(right),
         scratch,
     );
     Attempt { tree, zeros: marks }
@@ -769,18 +613,6 @@ fn answer_of(standing: Standing) -> Answer
     }
 }
 
-// The first words become 0.
-fn clear(scratch: &mut [u32], words: usize)
-    requires { ⌜ words ≤ length (now scratch) ⌝ }
-    ensures { λ _. ⌜ now (scratch .exit) ≡ cleared words (now (scratch .entry)) ⌝ }
-{
-    let mut i: usize = 0;
-    while i < words {
-        scratch[i] = 0;
-        i += 1;
-    }
-}
-
 // The search of a whole sheet: the input check, then the columns, then the lent words cleared.
 pub fn search(
     size: Size,
@@ -801,151 +633,8 @@ pub fn search(
         Checked::Accepted => {
             let standing = search_columns(size, terms, values, codes, order, cuts, counts, scratch);
             let words = WORDS_PER_ROW * size.rows;
-            clear(scratch, words);
+            cut_try::clear(scratch, words);
             answer_of(standing)
-        }
-    }
-}
-
-// ---- one cut by itself
-
-// The two sides of a cut; or why there are none, with 0 for a column or a cut number that is not there.
-pub enum Scanned {
-    TurnedBack { number: u32, place: usize },
-    Done(Sides),
-}
-
-// A cut tried that many times over, once at least.
-fn try_times(
-    size: Size,
-    support: u32,
-    values: &[f64],
-    codes: &[u8],
-    order: &[u16],
-    cuts: &[u16],
-    column: usize,
-    cut: usize,
-    times: u32,
-    scratch: &mut [u32],
-) -> Tree
-    requires { ⌜ Trying size (now values) (now codes) (now order) (now cuts) column cut (now scratch) ⌝ }
-    ensures { λ r. ⌜ ((counts : List ℕ) → r ≡ triedTree (sheetOf size (now (values .entry)) (now (codes .entry)) (now (order .entry)) (now (cuts .entry)) counts) support column cut) ⌝ }
-    ensures lent { λ _. ⌜ Became (size .rows) (now (scratch .entry)) (now (scratch .exit)) (tableOf (size .rows) (now (scratch .exit))) (ringOf (size .rows) (now (scratch .exit))) ⌝ }
-{
-    let mut tree = try_cut(
-        size,
-        support,
-        values,
-        codes,
-        order,
-        cuts,
-        column,
-        cut,
-        scratch,
-    );
-    let mut done: u32 = 1;
-    while done < times {
-        tree = try_cut(
-            size,
-            support,
-            values,
-            codes,
-            order,
-            cuts,
-            column,
-            cut,
-            scratch,
-        );
-        done += 1;
-    }
-    tree
-}
-
-// A cut of an accepted sheet, if there is one of that column and number.
-fn scan_listed(
-    size: Size,
-    support: u32,
-    values: &[f64],
-    codes: &[u8],
-    order: &[u16],
-    cuts: &[u16],
-    counts: &[u16],
-    column: usize,
-    cut: usize,
-    times: u32,
-    scratch: &mut [u32],
-) -> Scanned
-    requires { ⌜ Whole (sheetOf size (now values) (now codes) (now order) (now cuts) (now counts)) × Enough (size .rows) (now scratch) ⌝ }
-    ensures { λ r. ⌜ r ≡ scannedAt (sheetOf size (now (values .entry)) (now (codes .entry)) (now (order .entry)) (now (cuts .entry)) (now (counts .entry))) support column cut ⌝ }
-    ensures lent { λ _. ⌜ Became (size .rows) (now (scratch .entry)) (now (scratch .exit)) (tableOf (size .rows) (now (scratch .exit))) (ringOf (size .rows) (now (scratch .exit))) ⌝ }
-{
-    if size.columns <= column {
-        return Scanned::TurnedBack {
-            number: 0,
-            place: 0,
-        };
-    }
-    let listed = wide(counts[column]);
-    if listed <= cut {
-        return Scanned::TurnedBack {
-            number: 0,
-            place: 0,
-        };
-    }
-    let tree = try_times(
-        size,
-        support,
-        values,
-        codes,
-        order,
-        cuts,
-        column,
-        cut,
-        times,
-        scratch,
-    );
-    let left = tree.left;
-    let right = tree.right;
-    Scanned::Done(Sides { left, right })
-}
-
-// The two sides of one cut: the input check, then the scan that many times over, then the lent words cleared. The answer does not depend on how often.
-pub fn scan_cut(
-    size: Size,
-    terms: Terms,
-    values: &[f64],
-    codes: &[u8],
-    order: &[u16],
-    cuts: &[u16],
-    counts: &[u16],
-    column: usize,
-    cut: usize,
-    times: u32,
-    scratch: &mut [u32],
-) -> Scanned
-    ensures answer { λ r. ⌜ r ≡ scannedOf (sheetOf size (now (values .entry)) (now (codes .entry)) (now (order .entry)) (now (cuts .entry)) (now (counts .entry))) terms column cut (length (now (scratch .entry))) ⌝ }
-    ensures lent { λ _. ⌜ now (scratch .exit) ≡ scratchOf (sheetOf size (now (values .entry)) (now (codes .entry)) (now (order .entry)) (now (cuts .entry)) (now (counts .entry))) terms (now (scratch .entry)) ⌝ }
-{
-    let checked = sheet::check(size, terms, values, codes, order, cuts, counts, scratch);
-    match checked {
-        Checked::Refused(number, place) => Scanned::TurnedBack { number, place },
-        Checked::Accepted => {
-            let scanned = scan_listed(
-                size,
-                terms.support,
-                values,
-                codes,
-                order,
-                cuts,
-                counts,
-                column,
-                cut,
-                times,
-                scratch,
-            );
-            let lent = WORDS_PER_ROW * size.rows;
-            clear(scratch, lent);
-            scanned
         }
     }
 }

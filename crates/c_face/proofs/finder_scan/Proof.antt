@@ -6,7 +6,7 @@ use lib.ListN.{length, getD}
 use Rattle.sheet.specs.declared.Terms.{Terms}
 use Rattle.sheet.specs.Sheet.{Sheet}
 use Rattle.depth2.specs.Search.{scratchOf}
-use Rattle.depth2.specs.CutScan.{scannedOf}
+use Rattle.cut_scan.specs.CutScan.{scannedOf}
 use Rattle.c_face.specs.Face.{sheetIn, termsIn, written}
 use Rattle.c_face.specs.Rule.{scanWords}
 use Rattle.c_face.proofs.Calling.{same-asked}

@@ -2,8 +2,8 @@
 use Prim.Native.Nat.{ℕ}
 use mathlib.Core.List.{List}
 use borrow.Author.Needs.{needs}
-use Rattle.depth2.specs.Lent.{ringOf}
-use Rattle.depth2.proofs.Lent.{ring-became, pushed-length}
+use Rattle.cut_try.specs.Lent.{ringOf}
+use Rattle.cut_try.proofs.Lent.{ring-became, pushed-length}
 use Rattle.interval_queue.specs.Ring.{pushedWords}
 use Rattle.depth2.proofs.add_interval.Statement.{statement}
 use Rattle.depth2.proofs.add_interval.Tie as tie

@@ -6,7 +6,7 @@ use mathlib.Core.List.{_++_}
 use borrow.Author.Needs.{needs}
 use Rattle.depth2.proofs.Queueing.{part-full}
 use Rattle.depth2.proofs.Columns.{first-pushing, none-waits}
-use Rattle.depth2.specs.Lent.{ringOf}
+use Rattle.cut_try.specs.Lent.{ringOf}
 use Rattle.interval_pruner.specs.declared.Tried.the-variants.{Nothing}
 use Rattle.depth2.proofs.begin_column.Statement.{statement}
 use Rattle.depth2.proofs.begin_column.Tie as tie

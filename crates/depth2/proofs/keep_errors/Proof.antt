@@ -5,8 +5,8 @@ use native.Mathlib.Omega.{arith}
 use mathlib.Core.List.{List}
 use borrow.Author.Needs.{needs}
 use lib.Seq.{length-take-le}
-use Rattle.depth2.specs.Lent.{tableOf}
-use Rattle.depth2.proofs.Lent.{table-became, recorded-length}
+use Rattle.cut_try.specs.Lent.{tableOf}
+use Rattle.cut_try.proofs.Lent.{table-became, recorded-length}
 use Rattle.interval_pruner.specs.Pruner.{recordedAfter}
 use Rattle.depth2.proofs.keep_errors.Statement.{statement}
 use Rattle.depth2.proofs.keep_errors.Tie as tie

@@ -1,6 +1,6 @@
 -- `depth2::next_interval` meets its contract. The ring is the part of the lent words from the table's end to the marks. Assumes nothing.
 use borrow.Author.Needs.{needs}
-use Rattle.depth2.specs.Lent.{ringOf}
+use Rattle.cut_try.specs.Lent.{ringOf}
 use Rattle.depth2.proofs.next_interval.Statement.{statement}
 use Rattle.depth2.proofs.next_interval.Tie as tie
 

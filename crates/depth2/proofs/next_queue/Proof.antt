@@ -8,7 +8,7 @@ use mathlib.Core.Bool.{Bool}
 use Rattle.basics.specs.Choice.{pick}
 use Rattle.interval_pruner.specs.declared.Bound.{Bound}
 use Rattle.interval_queue.specs.Ring.{contents}
-use Rattle.depth2.specs.Lent.{ringOf}
+use Rattle.cut_try.specs.Lent.{ringOf}
 use Rattle.depth2.specs.Course.{partsQueued}
 use Rattle.depth2.proofs.next_queue.Statement.{statement}
 use Rattle.depth2.proofs.next_queue.Tie as tie

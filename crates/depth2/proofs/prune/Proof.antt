@@ -3,7 +3,7 @@ use mathlib.Core.Path.{sym, ap, _∙_}
 use native.Mathlib.Omega.{arith}
 use borrow.Author.Needs.{needs}
 use lib.Seq.{length-take-le}
-use Rattle.depth2.specs.Lent.{tableOf}
+use Rattle.cut_try.specs.Lent.{tableOf}
 use Rattle.depth2.specs.Course.{prunedOf}
 use mathlib.Core.Bool.{Bool}
 use Rattle.basics.specs.Choice.{pick}

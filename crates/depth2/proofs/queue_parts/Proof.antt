@@ -8,9 +8,9 @@ use Rattle.interval_pruner.specs.declared.Parts.{Parts}
 use Rattle.interval_pruner.specs.Column.{columnOf}
 use Rattle.interval_pruner.specs.Pruner.{partsOf}
 use Rattle.column_search.specs.Search.{part, upperPart, lowerPart}
-use Rattle.depth2.specs.Lent.{tableOf, ringOf, Became}
+use Rattle.cut_try.specs.Lent.{tableOf, ringOf, Became}
 use Rattle.depth2.specs.Course.{Pushing, Queued}
-use Rattle.depth2.proofs.Lent.{became-then}
+use Rattle.cut_try.proofs.Lent.{became-then}
 use Rattle.depth2.proofs.Queueing.{none-queued, both-queued, upper-pushing, lower-pushing, parts-none, parts-both}
 use Rattle.depth2.proofs.queue_parts.Statement.{statement}
 use Rattle.depth2.proofs.queue_parts.Tie as tie

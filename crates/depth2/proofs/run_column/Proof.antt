@@ -7,13 +7,13 @@ use Rattle.basics.specs.Lists.{total}
 use Rattle.sheet.specs.Check.{sheetOf}
 use Rattle.interval_queue.specs.Ring.{contents}
 use Rattle.column_search.specs.Loop.{weight}
-use Rattle.depth2.specs.Lent.{tableOf, ringOf, Became}
+use Rattle.cut_try.specs.Lent.{tableOf, ringOf, Became}
 use Rattle.depth2.specs.Course.{Stands, standingAfter, Opened, firstAt, lastAt, Begun}
 use Rattle.sheet.specs.Sheet.{Sheet}
 use Rattle.column_search.specs.Search.{columnRun}
 use Rattle.depth2.specs.declared.Standing.{Standing}
-use Rattle.depth2.specs.Try.{columnOf}
-use Rattle.depth2.proofs.Lent.{became-then}
+use Rattle.cut_try.specs.Try.{columnOf}
+use Rattle.cut_try.proofs.Lent.{became-then}
 use Rattle.depth2.proofs.Turns.{end-listed}
 use Rattle.depth2.proofs.Columns.{opened-stands, stands-done, begun-after}
 use Rattle.interval_pruner.specs.declared.Tried.the-variants.{Nothing}

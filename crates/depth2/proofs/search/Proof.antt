@@ -8,7 +8,8 @@ use borrow.Author.Needs.{needs}
 use Rattle.sheet.specs.declared.Checked.{Checked}
 use Rattle.sheet.specs.Sheet.{Sheet}
 use Rattle.sheet.specs.Check.{sheetOf, scratchAfter}
-use Rattle.depth2.proofs.Answer.{accepted-whole, still-enough, cleared-again, found-answer, refused}
+use Rattle.cut_try.proofs.Accepted.{accepted-whole, still-enough, cleared-again}
+use Rattle.depth2.proofs.Answer.{found-answer, refused}
 use Rattle.depth2.proofs.search.Statement.{statement}
 use Rattle.depth2.proofs.search.Tie as tie
 
@@ -94,7 +95,7 @@ returns-2 c =
     let searching = c .before .before .before .before .before .before .before .before .search-columns in
     let zs : List ℕ = searching .last .1 .1 .1 .1 .1 .1 .1 .0 in (
       c .answer-of .ensures
-          ∙ found-answer s (a .terms) xs ys (check .result) (check .ensures .0) told (check .ensures .1) (searching .result) (searching .ensures .0),
+          ∙ found-answer s (a .terms) xs (check .result) (check .ensures .0) told (searching .result) (searching .ensures .0),
       c .before .before .before .clear .ensures
           ∙ cleared-again s (a .terms) xs ys (check .result) (check .ensures .0) told (check .ensures .1) zs _ _ (searching .ensures .1),
     )

@@ -9,7 +9,7 @@ use Rattle.cuts.specs.declared.Run.{Run}
 use Rattle.cuts.specs.Lookups.{Ascending}
 use Rattle.cuts.specs.Feasible.{feasibleOf}
 use Rattle.column_search.specs.Search.{columnRun}
-use Rattle.depth2.specs.Try.{columnOf}
+use Rattle.cut_try.specs.Try.{columnOf}
 use Rattle.depth2.specs.Course.{feasibleAt, standingAfter}
 use Rattle.depth2.proofs.Places.{placed-in, places-ascend}
 use Rattle.depth2.proofs.Columns.{column-none, column-some}

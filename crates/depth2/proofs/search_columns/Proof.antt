@@ -4,11 +4,11 @@ use Prim.Native.Nat.{_+_, _-_, _≤_, _<_}
 use native.Mathlib.Omega.{arith}
 use Rattle.sheet.specs.Sheet.{Sheet}
 use Rattle.sheet.specs.Check.{sheetOf}
-use Rattle.depth2.specs.Lent.{tableOf, ringOf, Became}
+use Rattle.cut_try.specs.Lent.{tableOf, ringOf, Became}
 use Rattle.depth2.specs.Course.{Between}
 use borrow.Author.Needs.{needs}
 use Rattle.depth2.specs.declared.Standing.{Standing}
-use Rattle.depth2.proofs.Lent.{became-enough, became-then}
+use Rattle.cut_try.proofs.Lent.{became-enough, became-then}
 use Rattle.depth2.proofs.Columns.{between-start, between-next, between-stop, between-end}
 use Rattle.depth2.proofs.search_columns.Statement.{statement}
 use Rattle.depth2.proofs.search_columns.Tie as tie

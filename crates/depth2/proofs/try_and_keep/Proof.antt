@@ -6,8 +6,8 @@ use Rattle.tree.specs.declared.Tree.{Tree}
 use Rattle.tree.specs.Answer.{sideError}
 use Rattle.leaves_score.specs.Root.{errorsAt}
 use Rattle.interval_pruner.specs.Pruner.{zerosAfter, recordedAfter}
-use Rattle.depth2.specs.Try.{triedTree, treeAt}
-use Rattle.depth2.proofs.Try.{tried-few}
+use Rattle.cut_try.specs.Try.{triedTree, treeAt}
+use Rattle.cut_try.proofs.Try.{tried-few}
 use Rattle.depth2.proofs.try_and_keep.Statement.{statement}
 use Rattle.depth2.proofs.try_and_keep.Tie as tie
 

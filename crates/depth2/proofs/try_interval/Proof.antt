@@ -9,8 +9,8 @@ use Rattle.sheet.specs.Check.{sheetOf}
 use Rattle.interval_queue.specs.Ring.{contents}
 use Rattle.column_search.specs.Search.{middle, tryCut}
 use Rattle.depth2.specs.declared.Standing.{Standing}
-use Rattle.depth2.specs.Lent.{ringOf}
-use Rattle.depth2.specs.Try.{columnOf}
+use Rattle.cut_try.specs.Lent.{ringOf}
+use Rattle.cut_try.specs.Try.{columnOf}
 use Rattle.depth2.specs.Course.{Matches, Parting, partsQueued}
 use Rattle.depth2.proofs.Places.{placed-in}
 use Rattle.depth2.proofs.Steps.{matches-next}

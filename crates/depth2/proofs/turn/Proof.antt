@@ -15,7 +15,7 @@ use Rattle.interval_queue.specs.Ring.{contents}
 use Rattle.column_search.specs.Search.{dropped, afterShrink, tryCut}
 use Rattle.column_search.specs.Loop.{weight}
 use Rattle.depth2.specs.declared.Standing.{Standing}
-use Rattle.depth2.specs.Lent.{tableOf, ringOf}
+use Rattle.cut_try.specs.Lent.{tableOf, ringOf}
 use Rattle.depth2.specs.Course.{Stands, prunedOf}
 use Rattle.depth2.proofs.Turns.{pruned-is, stands-next, without-first, attempting-next}
 use Rattle.depth2.proofs.turn.Statement.{statement}

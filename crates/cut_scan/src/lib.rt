@@ -1,0 +1,163 @@
+// The two sides of one cut, asked for by themselves.
+use leaves_score::Sides;
+use sheet::Checked;
+use sheet::Size;
+use sheet::Terms;
+use sheet::WORDS_PER_ROW;
+use tree::Tree;
+ghost use mathlib.Core.Path.{_≡_};
+ghost use Prim.Native.Nat.{ℕ, _+_, _-_, _*_, _<_};
+ghost use mathlib.Core.List.{List};
+ghost use lib.ListN.{length};
+ghost use Rattle.sheet.specs.Check.{sheetOf, checkOf, scratchAfter};
+ghost use Rattle.cut_try.specs.Try.{triedTree};
+ghost use Rattle.cut_try.specs.Lent.{tableOf, ringOf, Enough, Became};
+ghost use Rattle.cut_scan.specs.CutScan.{scannedAt, scannedOf};
+ghost use Rattle.cut_try.specs.Ready.{Trying, Whole};
+
+fn wide(x: u16) -> usize
+    ensures { λ r. ⌜ r ≡ x ⌝ }
+{
+    x as usize
+}
+
+// The two sides of a cut; or why there are none, with 0 for a column or a cut number that is not there.
+pub enum Scanned {
+    TurnedBack { number: u32, place: usize },
+    Done(Sides),
+}
+
+// A cut tried that many times over, once at least.
+fn try_times(
+    size: Size,
+    support: u32,
+    values: &[f64],
+    codes: &[u8],
+    order: &[u16],
+    cuts: &[u16],
+    column: usize,
+    cut: usize,
+    times: u32,
+    scratch: &mut [u32],
+) -> Tree
+    requires { ⌜ Trying size (now values) (now codes) (now order) (now cuts) column cut (now scratch) ⌝ }
+    ensures { λ r. ⌜ ((counts : List ℕ) → r ≡ triedTree (sheetOf size (now (values .entry)) (now (codes .entry)) (now (order .entry)) (now (cuts .entry)) counts) support column cut) ⌝ }
+    ensures lent { λ _. ⌜ Became (size .rows) (now (scratch .entry)) (now (scratch .exit)) (tableOf (size .rows) (now (scratch .exit))) (ringOf (size .rows) (now (scratch .exit))) ⌝ }
+{
+    let mut tree = cut_try::try_cut(
+        size,
+        support,
+        values,
+        codes,
+        order,
+        cuts,
+        column,
+        cut,
+        scratch,
+    );
+    let mut done: u32 = 1;
+    while done < times {
+        tree = cut_try::try_cut(
+            size,
+            support,
+            values,
+            codes,
+            order,
+            cuts,
+            column,
+            cut,
+            scratch,
+        );
+        done += 1;
+    }
+    tree
+}
+
+// A cut of an accepted sheet, if there is one of that column and number.
+fn scan_listed(
+    size: Size,
+    support: u32,
+    values: &[f64],
+    codes: &[u8],
+    order: &[u16],
+    cuts: &[u16],
+    counts: &[u16],
+    column: usize,
+    cut: usize,
+    times: u32,
+    scratch: &mut [u32],
+) -> Scanned
+    requires { ⌜ Whole (sheetOf size (now values) (now codes) (now order) (now cuts) (now counts)) × Enough (size .rows) (now scratch) ⌝ }
+    ensures { λ r. ⌜ r ≡ scannedAt (sheetOf size (now (values .entry)) (now (codes .entry)) (now (order .entry)) (now (cuts .entry)) (now (counts .entry))) support column cut ⌝ }
+    ensures lent { λ _. ⌜ Became (size .rows) (now (scratch .entry)) (now (scratch .exit)) (tableOf (size .rows) (now (scratch .exit))) (ringOf (size .rows) (now (scratch .exit))) ⌝ }
+{
+    if size.columns <= column {
+        return Scanned::TurnedBack {
+            number: 0,
+            place: 0,
+        };
+    }
+    let listed = wide(counts[column]);
+    if listed <= cut {
+        return Scanned::TurnedBack {
+            number: 0,
+            place: 0,
+        };
+    }
+    let tree = try_times(
+        size,
+        support,
+        values,
+        codes,
+        order,
+        cuts,
+        column,
+        cut,
+        times,
+        scratch,
+    );
+    let left = tree.left;
+    let right = tree.right;
+    Scanned::Done(Sides { left, right })
+}
+
+// The two sides of one cut: the input check, then the scan that many times over, then the lent words cleared. The answer does not depend on how often.
+pub fn scan_cut(
+    size: Size,
+    terms: Terms,
+    values: &[f64],
+    codes: &[u8],
+    order: &[u16],
+    cuts: &[u16],
+    counts: &[u16],
+    column: usize,
+    cut: usize,
+    times: u32,
+    scratch: &mut [u32],
+) -> Scanned
+    ensures answer { λ r. ⌜ r ≡ scannedOf (sheetOf size (now (values .entry)) (now (codes .entry)) (now (order .entry)) (now (cuts .entry)) (now (counts .entry))) terms column cut (length (now (scratch .entry))) ⌝ }
+    ensures lent { λ _. ⌜ now (scratch .exit) ≡ scratchAfter (checkOf (sheetOf size (now (values .entry)) (now (codes .entry)) (now (order .entry)) (now (cuts .entry)) (now (counts .entry))) terms (length (now (scratch .entry)))) (size .rows) (now (scratch .entry)) ⌝ }
+{
+    let checked = sheet::check(size, terms, values, codes, order, cuts, counts, scratch);
+    match checked {
+        Checked::Refused(number, place) => Scanned::TurnedBack { number, place },
+        Checked::Accepted => {
+            let scanned = scan_listed(
+                size,
+                terms.support,
+                values,
+                codes,
+                order,
+                cuts,
+                counts,
+                column,
+                cut,
+                times,
+                scratch,
+            );
+            let lent = WORDS_PER_ROW * size.rows;
+            cut_try::clear(scratch, lent);
+            scanned
+        }
+    }
+}

@@ -1,0 +1,103 @@
+-- `cut_try::mark_sides` meets its contract. The loop's invariant: the rows of the places passed have the marks of their sides. Assumes nothing.
+use mathlib.Core.Path.{_≡_, refl, sym, subst}
+use Prim.Native.Nat.{ℕ, _+_, _-_, _*_, _≤_, _<_}
+use native.Mathlib.Omega.{arith}
+use mathlib.Core.List.{List}
+use lib.ListN.{length, getD, set, length-set}
+use borrow.Author.Needs.{needs}
+use Rattle.cut_try.specs.Ready.{MarkedTo}
+use Rattle.cut_try.proofs.Marks.{marks-next}
+use Rattle.cut_try.proofs.mark_sides.Statement.{statement}
+use Rattle.cut_try.proofs.mark_sides.Tie as tie
+
+abbrev Inv-loop : tie.InvT-loop
+Inv-loop size order column place marks₀ base i₀ marks i =
+    (base ≡ column * size .rows) × (i ≤ size .rows) × (length marks ≡ length marks₀) × MarkedTo size order column place marks i
+
+abbrev μ-loop : tie.MeasureT-loop
+μ-loop size order column place marks₀ base i₀ marks i = size .rows - i
+
+mul-base : tie.Need-mul-base Inv-loop μ-loop
+mul-base c = search needs
+
+loop-holds : tie.Need-loop-holds Inv-loop μ-loop
+loop-holds c = (refl, search needs, refl, λ left agree i h. absurd (omega arith))
+
+add-wide : tie.Need-add-wide Inv-loop μ-loop
+add-wide c = search needs
+
+mul-wide : tie.Need-mul-wide Inv-loop μ-loop
+mul-wide c = search needs
+
+shared-slice-read-wide : tie.Need-shared-slice-read-wide Inv-loop μ-loop
+shared-slice-read-wide c = search needs
+
+wide-requires : tie.Need-wide-requires Inv-loop μ-loop
+wide-requires c κs = search needs
+
+side-mark-requires : tie.Need-side-mark-requires Inv-loop μ-loop
+side-mark-requires c κs = search needs
+
+mul-marks : tie.Need-mul-marks Inv-loop μ-loop
+mul-marks c =
+    let a = c .before .before .before .before .before .before .before .before .before .args in
+    let pre = c .before .before .before .before .before .before .before .before .before .pre in
+    record { fits = omega (arith, c .before .wide .ensures, pre .in-rows (c .before .before .before .before .before .loop .i) (omega arith), pre .rows-most) }
+
+slice-write-marks : tie.Need-slice-write-marks Inv-loop μ-loop
+slice-write-marks c =
+    let pre = c .before .before .before .before .before .before .before .before .before .pre in
+    let l = c .before .before .before .before .before .loop in
+    omega (arith, c .before .wide .ensures, pre .in-rows (l .i) (omega arith), pre .marked, l .inv .2)
+
+add-i : tie.Need-add-i Inv-loop μ-loop
+add-i c = search needs
+
+loop-less : tie.Need-loop-less Inv-loop μ-loop
+loop-less c = search needs
+
+loop-again : tie.Need-loop-again Inv-loop μ-loop
+loop-again c =
+    let a = c .before .before .before .before .before .before .before .before .before .args in
+    let pre = c .before .before .before .before .before .before .before .before .before .pre in
+    let l = c .before .before .before .before .before .loop in
+    let row : ℕ = getD (a .order .now) (a .column * a .size .rows + l .i) 0 in
+    let h : l .i < a .size .rows = omega arith in
+    let next = marks-next (a .size) (a .order .now) (a .column) (a .place) (l .marks) (l .i) (l .inv .3) h (omega (arith, pre .in-rows (l .i) h, pre .marked, l .inv .2)) in (
+      refl,
+      omega arith,
+      simp length-set (l .inv .2),
+      subst (λ (m : List ℕ). MarkedTo (a .size) (a .order .now) (a .column) (a .place) m (l .i + 1))
+          (λ t. set (l .marks) (sym (c .before .wide .ensures) t) (sym (c .side-mark .ensures) t)) next,
+    )
+
+same-length : tie.Need-same-length Inv-loop μ-loop
+same-length c = search needs
+
+returns : tie.Need-returns Inv-loop μ-loop
+returns c =
+    let l = c .before .before .loop in
+    let a = c .before .before .before .before .before .before .args in
+    let e : l .i ≡ a .size .rows = omega arith in
+    (l .inv .2, subst (λ (n : ℕ). MarkedTo (a .size) (a .order .now) (a .column) (a .place) (l .marks) n) e (l .inv .3))
+
+pub mark-sides-spec : {M : Type 1} → statement M
+mark-sides-spec =
+    tie.close
+    (tie.spec
+    Inv-loop
+    μ-loop
+    mul-base
+    loop-holds
+    add-wide
+    mul-wide
+    shared-slice-read-wide
+    wide-requires
+    side-mark-requires
+    mul-marks
+    slice-write-marks
+    add-i
+    loop-less
+    loop-again
+    same-length
+    returns)

@@ -1,0 +1,26 @@
+-- `cut_try::side_error` meets its contract. By the side's case; the sum of a split's two errors is the side's error, which is small. Assumes nothing.
+use mathlib.Core.Path.{sym, ap}
+use native.Mathlib.Omega.{arith}
+use borrow.Author.Needs.{needs}
+use Rattle.tree.specs.Answer.{sideError}
+use Rattle.cut_try.proofs.side_error.Statement.{statement}
+use Rattle.cut_try.proofs.side_error.Tie as tie
+
+enum-known-side : tie.Need-enum-known-side
+enum-known-side c = search needs
+
+enum-known-side-2 : tie.Need-enum-known-side-2
+enum-known-side-2 c = search needs
+
+add-result : tie.Need-add-result
+add-result c = record { fits = omega (arith, c .before .before .before .pre, ap sideError (c .before .side2 .given .1)) }
+
+returns : tie.Need-returns
+returns c = search needs
+
+returns-2 : tie.Need-returns-2
+returns-2 c = sym (ap sideError (c .before .side2 .given .1))
+
+pub side-error-spec : {M : Type 1} → statement M
+side-error-spec =
+    tie.close (tie.spec enum-known-side enum-known-side-2 add-result returns returns-2)
