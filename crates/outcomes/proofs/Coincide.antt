@@ -1,7 +1,8 @@
 -- Both outcomes are what the contract says, so they are the same.
 use mathlib.Core.Path.{sym, _∙_}
 use Rattle.prepare.proofs.Soundness.{determined}
-use Rattle.outcomes.specs.Outcomes.{ThresholdBetween, GoesLeft, InRange, SentLeft, LeftOfCut, FirstBadValue, FirstBadLabel, SizeHolds, Check, Prepare, PlaceAt, LowerBound, UpperBound, FeasibleSplits, AddResult, SubintervalPruning, IntervalShrinking, NeighbourhoodPruning, Push, Pop, GetLeavesScore, Search, Judge, ReadSheet, WriteAnswer}
+use Rattle.rule_finder.proofs.Laws.{outcomes-coincide}
+use Rattle.outcomes.specs.Outcomes.{ThresholdBetween, GoesLeft, InRange, SentLeft, LeftOfCut, FirstBadValue, FirstBadLabel, SizeHolds, Check, Prepare, PlaceAt, LowerBound, UpperBound, FeasibleSplits, AddResult, SubintervalPruning, IntervalShrinking, NeighbourhoodPruning, Push, Pop, GetLeavesScore, Search, Judge, ReadSheet, WriteAnswer, BitsOf, RunText, ScanCut, FinderPrepare, FinderCheck, FinderSearch, FinderScan}
 
 pub threshold-between : ThresholdBetween
 threshold-between lower upper a b p q = p ∙ sym q
@@ -77,3 +78,24 @@ read-sheet sheet values codes a b p q = p ∙ sym q
 
 pub write-answer : WriteAnswer
 write-answer answer out a b p q = p ∙ sym q
+
+pub bits-of : BitsOf
+bits-of x a b p q = p ∙ sym q
+
+pub run-text : RunText
+run-text = outcomes-coincide
+
+pub scan-cut : ScanCut
+scan-cut s t column cut scratch a b p q = p ∙ sym q
+
+pub finder-prepare : FinderPrepare
+finder-prepare numbers values order cuts counts answer a b p q = p ∙ sym q
+
+pub finder-check : FinderCheck
+finder-check numbers values codes order cuts counts scratch answer a b p q = p ∙ sym q
+
+pub finder-search : FinderSearch
+finder-search numbers values codes order cuts counts scratch answer a b p q = p ∙ sym q
+
+pub finder-scan : FinderScan
+finder-scan numbers values codes order cuts counts scratch answer a b p q = p ∙ sym q

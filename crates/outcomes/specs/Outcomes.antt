@@ -3,13 +3,12 @@
 use mathlib.Core.Path.{_≡_}
 use Prim.Native.Nat.{ℕ}
 use mathlib.Core.Bool.{Bool}
-use mathlib.Core.List.{List, []}
+use mathlib.Core.List.{List}
 use lib.ListN.{length, getD}
-use lib.Ieee.{Float}
+use lib.Ieee.{Float, binary64, toBits}
 use Rattle.basics.specs.Walk.{walk}
 use Rattle.threshold.specs.Threshold.{thresholdOf, goesLeft, within}
 use Rattle.parting.specs.Column.{leftOf, leftOfCut}
-use Rattle.sheet.specs.declared.Size.{Size}
 use Rattle.sheet.specs.declared.Terms.{Terms}
 use Rattle.sheet.specs.declared.Checked.{Checked}
 use Rattle.sheet.specs.Sheet.{Sheet}
@@ -37,6 +36,11 @@ use Rattle.prepare.specs.Laws.{Determined}
 use Rattle.sheet_bytes.specs.declared.Read.{Read}
 use Rattle.sheet_bytes.specs.Read as bytes
 use Rattle.listing.specs.Listing.{writtenOf, outOf}
+use Rattle.cut_scan.specs.declared.Scanned.{Scanned}
+use Rattle.cut_scan.specs.CutScan.{scannedOf}
+use Rattle.rule_finder.specs.Laws as finder
+use Rattle.c_face.specs.Face.{sheetIn, termsIn, written, prepareAnswer, preparedTold, checkAnswer, checkedTold}
+use Rattle.c_face.specs.Rule.{searchAnswer, searchWords, scanAnswer, scanWords}
 
 -- two outcomes that are what an equation says
 abbrev pub One : (A : Type 0) → A → Type 0
@@ -137,3 +141,45 @@ ReadSheet =
 
 abbrev pub WriteAnswer : Type 0
 WriteAnswer = (answer : Answer) (out : List ℕ) → One (ℕ × List ℕ) (writtenOf answer out, outOf answer out)
+
+abbrev pub BitsOf : Type 0
+BitsOf = (x : Float) → One ℕ (toBits binary64 x)
+
+-- `run`
+abbrev pub RunText : Type 0
+RunText = finder.OutcomesCoincide
+
+-- ---- callers from C: the answer's words, and scratch
+
+abbrev pub ScanCut : Type 0
+ScanCut =
+    (s : Sheet) (t : Terms) (column cut : ℕ) (scratch : List ℕ)
+    → One (Scanned × List ℕ) (scannedOf s t column cut (length scratch), scratchOf s t scratch)
+
+-- the three lists are those of `Prepare`
+abbrev pub FinderPrepare : Type 0
+FinderPrepare =
+    (numbers : List ℕ) (values : List Float) (order cuts counts answer : List ℕ)
+    → One (List ℕ) (preparedTold (prepareAnswer numbers values order cuts counts) answer)
+
+abbrev pub FinderCheck : Type 0
+FinderCheck =
+    (numbers : List ℕ) (values : List Float) (codes order cuts counts scratch answer : List ℕ)
+    → let checked : Checked = checkAnswer numbers values codes order cuts counts (length scratch) in
+    One (List ℕ × List ℕ) (checkedTold checked answer, scratchAfter checked (getD numbers 0 0) scratch)
+
+abbrev pub FinderSearch : Type 0
+FinderSearch =
+    (numbers : List ℕ) (values : List Float) (codes order cuts counts scratch answer : List ℕ)
+    → One (List ℕ × List ℕ) (
+      written (searchWords (searchAnswer numbers values codes order cuts counts (length scratch))) answer,
+      scratchOf (sheetIn numbers values codes order cuts counts) (termsIn numbers) scratch,
+    )
+
+abbrev pub FinderScan : Type 0
+FinderScan =
+    (numbers : List ℕ) (values : List Float) (codes order cuts counts scratch answer : List ℕ)
+    → One (List ℕ × List ℕ) (
+      written (scanWords (scanAnswer numbers values codes order cuts counts (length scratch))) answer,
+      scratchOf (sheetIn numbers values codes order cuts counts) (termsIn numbers) scratch,
+    )
