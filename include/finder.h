@@ -8,7 +8,7 @@
  * The sheet. Value of row r in column c lies at c*rows + r. `order` has, at c*rows + i, the row at sorted place i of column c, ascending. `cuts` holds
  * column c's cuts from c*rows on: the places, from 1, whose value is above the one before; `counts` says how many, column by column. finder_prepare fills
  * these three. Values, order and cuts have rows*columns elements exactly, counts has columns, labels has rows. Scratch has at least
- * FINDER_SCRATCH_PER_ROW words a row; the search and the scan leave that many words 0, and any further ones as they were.
+ * FINDER_SCRATCH_PER_ROW words a row; the functions that are lent it leave that many words 0, and any further ones as they were.
  *
  * A call's numbers come in the order that is named with its function; one that is not there counts as 0. An answer of fewer words than its function
  * writes is left alone, and words past those stay as they are. Word 0 says what the answer is; a word that a case does not use is 0.
@@ -16,7 +16,7 @@
  * Turned back: FINDER_TURNED_BACK, a reason's number, its place.
  *   1 rows, columns or labels outside their limits       2 an input list of the wrong length
  *   3 scratch too short, or a list of the preparer's     4 support, gap, error or bound above its limit
- *   5 a value not finite or too large (index)            6 a label too high (row)
+ *   5 a value not finite or above 10^12 in size (index)  6 a label too high (row)
  *   7 an order entry that is no row, or a row met before in its column (index)
  *   8 a sorted value below its predecessor (index)       9 count or cuts not exactly the value changes (column)
  * The lowest number that holds is the one given. After 1 to 4 scratch is as it was.
