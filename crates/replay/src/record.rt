@@ -1,0 +1,25 @@
+// A record's numbers and bytes; oracle/recorded/README.md has its layout.
+ghost use mathlib.Core.Path.{_≡_};
+ghost use Rattle.io.specs.Counts.{Counts};
+
+fn wide(x: u8) -> usize
+    ensures { λ r. ⌜ r ≡ x ⌝ }
+{
+    x as usize
+}
+
+// The lower byte comes first.
+pub fn number(low: u8, high: u8) -> usize {
+    wide(low) + 256 * wide(high)
+}
+
+// Fills the start of `bytes`, where there is room for so many, and answers how many came.
+pub fn read_bytes(fd: i32, bytes: &mut [u8], size: usize) -> usize
+    ensures { λ r. ⌜ Counts r (now (bytes .exit)) ⌝ }
+{
+    if size <= bytes.len() {
+        io::read_full(fd, &mut bytes[..size])
+    } else {
+        0
+    }
+}
