@@ -1,12 +1,12 @@
 -- Laws of members, sums and counts. Assumes nothing.
-use mathlib.Core.Path.{_≡_, refl, sym, ap, ap₂, _∙_, subst}
+use mathlib.Core.Path.{_≡_, refl, ap, ap₂}
 use Prim.Native.Nat.{ℕ, zero, suc, _+_, _≤_, _<_}
 use native.Mathlib.Omega.{arith}
 use mathlib.Core.Bool.{Bool, true, false, not, _&&_}
 use mathlib.Core.List.{List, [], _∷_, _++_}
 use lib.ListN.{length, getD, take}
 use lib.Dec.{T}
-use Rattle.basics.specs.Choice.{pick, bit}
+use Rattle.basics.specs.Choice.{bit}
 use Rattle.basics.specs.Lists.{All, Any, here, there, total, tally, those, table}
 use Rattle.basics.proofs.Choice.{by-test, bit-true, bit-false, bit-le}
 

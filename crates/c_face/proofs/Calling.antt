@@ -1,6 +1,6 @@
 -- The numbers that a call hands over, read one by one, make the sizes and terms that the definitions name, and what is answered for the one is
 -- answered for the other. Assumes nothing.
-use mathlib.Core.Path.{_≡_, sym, ap, _∙_, subst}
+use mathlib.Core.Path.{_≡_, ap, _∙_, subst}
 use Prim.Native.Nat.{ℕ}
 use mathlib.Core.List.{List}
 use lib.ListN.{length}

@@ -2,20 +2,15 @@
 use mathlib.Core.Path.{_≡_, refl, sym, ap, _∙_}
 use Prim.Native.Nat.{ℕ, _≤_, _<_}
 use mathlib.Core.List.{List}
-use lib.ListN.{length}
 use lib.Dec.{lt→ltb}
 use lib.Ieee.{Float}
 use Rattle.basics.proofs.Choice.{pick-true, pick-false, nltb}
 use Rattle.sheet.specs.declared.Size.{Size}
 use Rattle.sheet.specs.declared.Terms.{Terms}
-use Rattle.sheet.specs.declared.Checked.{Checked}
 use Rattle.sheet.specs.declared.Checked.the-variants.{Accepted, Refused}
 use Rattle.sheet.specs.Sheet.{Sheet, countOf}
-use Rattle.sheet.specs.Check.{sheetOf, checkOf}
+use Rattle.sheet.specs.Check.{checkOf}
 use Rattle.tree.specs.declared.Tree.{Tree}
-use Rattle.leaves_score.specs.declared.Sides.{Sides}
-use Rattle.leaves_score.specs.Root.{sidesAt}
-use Rattle.cut_scan.specs.declared.Scanned.{Scanned}
 use Rattle.cut_scan.specs.declared.Scanned.the-variants.{TurnedBack, Done}
 use Rattle.cut_try.specs.Lent.{tableOf, ringOf, Became}
 use Rattle.cut_try.specs.Ready.{Trying}

@@ -1,5 +1,5 @@
 -- The cases of push and pop, by plain facts. Assumes nothing.
-use mathlib.Core.Path.{_≡_, refl, sym, ap, _∙_}
+use mathlib.Core.Path.{_≡_}
 use Prim.Native.Nat.{ℕ, _+_, _-_, _*_, _≤_, _<_}
 use native.Mathlib.Omega.{arith}
 use mathlib.Core.List.{List}
@@ -7,7 +7,6 @@ use lib.Dec.{leb, ltb, eqb, le→leb, lt→ltb}
 use Rattle.basics.proofs.Choice.{pick-true, pick-false, or-left, or-right, nor-both, nleb, nltb, eqb-no, eqb-yes}
 use Rattle.interval_pruner.specs.declared.Bound.{Bound}
 use Rattle.interval_queue.specs.declared.Queue.{Queue}
-use Rattle.interval_queue.specs.declared.Popped.{Popped}
 use Rattle.interval_queue.specs.Ring.{slotsOf, slotOf, stored, loaded, full, empty, emptyBound, pushed, pushedWords, popped}
 
 pub slot-inside : (head k slots : ℕ) → head + k < slots → slotOf head k slots ≡ head + k

@@ -1,6 +1,6 @@
 -- The ring holds a list: a slot is written where none waits, so those that wait stay as they are; and the slot after the head heads what is
 -- left. Assumes nothing.
-use mathlib.Core.Path.{_≡_, refl, sym, ap, ap₂, _∙_, subst}
+use mathlib.Core.Path.{_≡_, refl, sym, ap, ap₂, _∙_}
 use mathlib.Core.Logic.{_⊎_, inl, inr, ⊎-elim}
 use Prim.Native.Nat.{ℕ, zero, suc, _+_, _-_, _*_, _/_, _≤_, _<_}
 use native.Mathlib.Omega.{arith}
@@ -15,8 +15,7 @@ use Rattle.interval_pruner.specs.declared.Tried.{Tried}
 use Rattle.interval_pruner.specs.declared.Tried.the-variants.{Nothing, Cut}
 use Rattle.interval_pruner.specs.declared.Bound.{Bound}
 use Rattle.interval_queue.specs.declared.Queue.{Queue}
-use Rattle.interval_queue.specs.declared.Popped.{Popped}
-use Rattle.interval_queue.specs.Ring.{largestWord, wordOf, markOf, cutOf, stored, loaded, slotsOf, slotOf, contents, pushed, pushedWords, popped}
+use Rattle.interval_queue.specs.Ring.{largestWord, wordOf, markOf, cutOf, stored, loaded, slotsOf, slotOf, contents}
 use Rattle.interval_queue.specs.Laws.{Sane, Small, SmallCut, PushAppends, PopTakesFirst}
 use Rattle.interval_queue.proofs.Cases.{slot-inside, slot-round, push-room, push-room-words, pop-some}
 

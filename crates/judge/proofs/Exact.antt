@@ -3,29 +3,27 @@
 -- nothing.
 use mathlib.Core.Path.{_≡_, refl, sym, ap, _∙_, subst}
 use mathlib.Core.Logic.{_⊎_, inl, inr, ⊎-elim}
-use Prim.Native.Nat.{ℕ, zero, suc, _+_, _*_, _≤_, _<_}
+use Prim.Native.Nat.{ℕ, suc, _+_, _≤_, _<_}
 use native.Mathlib.Omega.{arith}
-use mathlib.Core.Bool.{Bool, true, false, not, _&&_, _||_}
+use mathlib.Core.Bool.{Bool, true, false, not}
 use mathlib.Core.List.{List, [], _∷_}
-use lib.ListN.{length, getD, List·getD-eq-default}
-use lib.Dec.{T, T-not, not-T, leb, ltb, eqb, leb→le, le→leb, eqb-refl}
+use lib.ListN.{length, List·getD-eq-default}
+use lib.Dec.{T, T-not, not-T, leb, eqb, leb→le, le→leb, eqb-refl}
 use lib.Ieee.Scale.{finite}
-use Rattle.basics.specs.Choice.{pick, bit}
-use Rattle.basics.specs.Lists.{tally, table}
+use Rattle.basics.specs.Choice.{bit}
+use Rattle.basics.specs.Lists.{tally}
 use Rattle.basics.specs.Walk.{walk}
 use Rattle.basics.proofs.Choice.{by-test, by-ltb, either, order, reach, and-both, or-left, or-right}
 use Rattle.basics.proofs.Lists.{length-table, tally-parts}
 use Rattle.threshold.specs.Threshold.{goesLeft}
 use Rattle.sheet.specs.Sheet.{Sheet, valueOf, everyRow}
 use Rattle.sheet.specs.Check.{cellsOf, sizeHolds, badValue, badLabel}
-use Rattle.sheet.specs.Laws.{SizeOutside, ValueOutside, LabelHigh}
 use Rattle.sheet.proofs.Search.{clean-walk, walk-bad}
 use Rattle.sheet.proofs.Answer.{limited}
 use Rattle.sheet.proofs.Exact.{size-to, size-from, value-to, value-from, label-to, label-from}
 use Rattle.tree.specs.declared.Side.{Side}
 use Rattle.tree.specs.declared.Side.the-variants.{Leaf, Split}
 use Rattle.tree.specs.declared.Tree.{Tree}
-use Rattle.judge.specs.declared.Judgement.{Judgement}
 use Rattle.judge.specs.declared.Verdict.{Verdict}
 use Rattle.judge.specs.declared.Verdict.the-variants.{TurnedBack, Judged}
 use Rattle.judge.specs.Mistakes.{rowsAt, rootLeftward, rootRightward, all, judgementOf}

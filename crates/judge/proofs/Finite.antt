@@ -1,8 +1,7 @@
 -- A value is finite exactly if it lies between the two infinities; a NaN lies nowhere. Assumes nothing.
 use mathlib.Core.Path.{_≡_, refl, sym}
-use mathlib.Core.Bool.{Bool, true, false, not}
-use lib.Dec.{T}
-use lib.Ieee.{Float, nan, inf, fin, binary64, mul, neg, lt, ofBits}
+use mathlib.Core.Bool.{true, false}
+use lib.Ieee.{Float, nan, inf, fin, lt}
 use lib.Ieee.Scale.{finite}
 
 pub below-endless : (x : Float) → lt (inf true) x ≡ true → lt x (inf false) ≡ finite x

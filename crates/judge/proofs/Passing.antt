@@ -1,17 +1,16 @@
 -- A row that comes to a side is one row more and at most one mistake more, at the leaf that it goes to; after the last row what was seen is what
 -- the definitions count. Assumes nothing.
 use mathlib.Core.Path.{_≡_, refl, sym, ap, ap₂, _∙_, subst}
-use Prim.Native.Nat.{ℕ, suc, _+_, _*_, _≤_, _<_, min}
+use Prim.Native.Nat.{ℕ, _+_, _*_, _≤_, _<_, min}
 use native.Mathlib.Omega.{arith}
 use native.Mathlib.Numerals.{add-one}
 use mathlib.Core.Bool.{Bool, true, false, not, _&&_}
-use mathlib.Core.List.{List, [], _∷_, _++_}
-use lib.ListN.{length}
+use mathlib.Core.List.{[], _∷_}
 use lib.Dec.{T, eqb, nleb→lt}
 use lib.Ieee.{Float}
-use Rattle.basics.specs.Choice.{pick, bit}
+use Rattle.basics.specs.Choice.{bit}
 use Rattle.basics.specs.Lists.{tally, table}
-use Rattle.basics.proofs.Choice.{by-test, pick-true, pick-false, bit-le}
+use Rattle.basics.proofs.Choice.{by-test, pick-true, pick-false}
 use Rattle.basics.proofs.Lists.{table-next, tally-append, tally-le, length-table}
 use Rattle.threshold.specs.Threshold.{goesLeft}
 use Rattle.sheet.specs.Limits.{mostRows}

@@ -1,21 +1,20 @@
 -- A reason that holds is the answer, and one that does not hands on to the next. Assumes nothing.
-use mathlib.Core.Path.{_≡_, refl, sym, ap, _∙_, subst}
+use mathlib.Core.Path.{_≡_, refl, sym, ap, _∙_}
 use Prim.Native.Nat.{ℕ, _≤_, _<_}
 use native.Mathlib.Omega.{arith}
-use mathlib.Core.Bool.{Bool, true, false, not, _&&_, _||_}
+use mathlib.Core.Bool.{Bool, true, false, not, _||_}
 use lib.ListN.{length}
 use lib.Dec.{T, leb, ltb, eqb, lt→ltb, eqb→eq}
 use lib.Ieee.{Float}
 use lib.Ieee.Scale.{finite}
 use borrow.Author.Tests.{lt-leb, le-leb, le-ltb}
-use Rattle.basics.specs.Choice.{pick}
 use Rattle.basics.specs.Walk.{walk}
 use Rattle.basics.proofs.Choice.{pick-true, pick-false, and-left, and-right}
 use Rattle.sheet.specs.Sheet.{Sheet}
 use Rattle.sheet.specs.Check.{cellsOf, sizeHolds, badValue, badLabel}
 use Rattle.sheet.specs.Reasons.{sizeOutside, lengthWrong, valueOutside, labelHigh}
 use Rattle.tree.specs.declared.Side.{Side}
-use Rattle.tree.specs.declared.Side.the-variants.{Leaf, Split}
+use Rattle.tree.specs.declared.Side.the-variants.{Split}
 use Rattle.tree.specs.declared.Tree.{Tree}
 use Rattle.sheet.proofs.Search.{truth, untruth}
 use Rattle.judge.specs.declared.Verdict.{Verdict}

@@ -1,9 +1,8 @@
 // The judge: a tree run over the rows of a sheet.
 ghost use mathlib.Core.Path.{_≡_};
-ghost use Prim.Native.Nat.{ℕ, _+_, _*_, _<_, _≤_, min};
+ghost use Prim.Native.Nat.{_+_, _*_, _<_, _≤_, min};
 ghost use mathlib.Core.Bool.{not};
 ghost use mathlib.Core.List.{[]};
-ghost use lib.ListN.{length, getD};
 ghost use lib.Dec.{T, eqb};
 ghost use lib.Ieee.Scale.{finite};
 ghost use Rattle.basics.specs.Choice.{bit};

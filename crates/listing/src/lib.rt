@@ -1,12 +1,11 @@
 // An answer as text, in the words of document 01.
 ghost use mathlib.Core.Path.{_≡_};
 ghost use Prim.Native.Nat.{_+_, _≤_, _<_};
-ghost use mathlib.Core.List.{_++_};
 ghost use lib.ListN.{length};
 ghost use lib.Ieee.{binary64, toBits};
 ghost use Rattle.listing.specs.Digits.{digitOf, digitsOf, placesOf, decimalOf, mostPlaces};
 ghost use Rattle.listing.specs.Put.{Put};
-ghost use Rattle.listing.specs.Listing.{field, spotOf, scoreOf, leafOf, splitOf, sideOf, foundOf, keptOf, refusedOf, ruleOf, listingOf, writtenOf, outOf, longest};
+ghost use Rattle.listing.specs.Listing.{field, spotOf, scoreOf, leafOf, splitOf, sideOf, foundOf, keptOf, refusedOf, ruleOf, writtenOf, outOf, longest};
 use tree::Answer;
 use tree::Side;
 use tree::Tree;

@@ -1,8 +1,8 @@
 -- Two values of a format that are equal are the same value, or both zeros: a value is told by its sign and its size. Assumes nothing.
 use mathlib.Core.Path.{_≡_, refl, sym, ap, ap₂, _∙_, subst}
-use Prim.Native.Nat.{ℕ, zero, suc, _+_, _-_, _*_, _/_, _^_}
+use Prim.Native.Nat.{ℕ, _+_, _-_, _*_, _/_, _^_}
 use native.Mathlib.Nat.{zero-mul, mul-div-cancel}
-use mathlib.Core.Bool.{Bool, true, false, _&&_, cond}
+use mathlib.Core.Bool.{Bool, true, false, cond}
 use lib.IntN.{pos}
 use lib.Dec.{T, eqb, eqb→eq}
 use lib.Pow.{pow-pos}
@@ -11,7 +11,7 @@ use lib.Ieee.Bits.{ofBits-toBits}
 use lib.Ieee.Fits.{and-l, and-r, down-pos}
 use lib.Ieee.Exact.{HasValue}
 use Rattle.order.proofs.Compare.{eq-is}
-use Rattle.order.proofs.Held.{Held, held}
+use Rattle.order.proofs.Held.{held}
 
 -- ---- a value of a format is told by its sign and its size in units, as its bit pattern is
 abbrev pattern : Format → Bool → ℕ → ℕ

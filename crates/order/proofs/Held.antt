@@ -1,16 +1,16 @@
 -- What a format holds: every finite value is ±q * 2 ^ j of the format's smallest values, with q of no more digits than the format keeps.
 -- So its rank is a plain number of such units, and the comparisons of finite values are those of their ranks. Assumes nothing.
 use mathlib.Core.Path.{_≡_, refl, sym, ap, ap₂, _∙_, subst, subst₂}
-use Prim.Native.Nat.{ℕ, zero, suc, _+_, _-_, _*_, _/_, _%_, _^_, _≤_, _<_, zero-le}
-use native.Mathlib.Nat.{le-of-lt, lt-of-lt-of-le, lt-of-le-of-lt, le-of-suc-le-suc, lt-of-not-le, not-le-of-lt, zero-mul, add-comm, mul-one, mul-assoc, mul-comm, mul-left-comm, mul-right-comm, mul-lt-mul-of-pos-right, mul-div-cancel, mul-pos}
+use Prim.Native.Nat.{ℕ, zero, suc, _+_, _-_, _*_, _/_, _%_, _^_, _≤_, _<_}
+use native.Mathlib.Nat.{le-of-lt, lt-of-lt-of-le, le-of-suc-le-suc, lt-of-not-le, not-le-of-lt, zero-mul, mul-one, mul-assoc, mul-comm, mul-lt-mul-of-pos-right, mul-div-cancel}
 use native.Mathlib.Omega.{arith}
-use mathlib.Core.Bool.{Bool, true, false, not, _&&_, _||_, cond}
+use mathlib.Core.Bool.{Bool, _&&_, _||_}
 use lib.IntN.{ℤ, pos, negsuc}
-use lib.Dec.{T, leb, ltb, eqb, leb→le, le→leb, ltb→lt, lt→ltb, eqb→eq}
+use lib.Dec.{T, leb, ltb, eqb, leb→le, ltb→lt}
 use lib.Pow.{pow-add, pow-pos, pow-mono, pow-lt, shl-lt}
-use lib.Ieee.{Float, nan, inf, fin, Format, prec, emax, low, up, down, below, level, lt, eq, le, fits, isNan}
+use lib.Ieee.{Float, nan, inf, fin, Format, prec, emax, low, up, down, lt, eq, le, fits}
 use lib.Ieee.Digits.{back}
-use lib.Ieee.Fits.{and-i, and-l, and-r, eq→eqb, down-pos, reach}
+use lib.Ieee.Fits.{and-l, and-r, down-pos, reach}
 use lib.Ieee.Exact.{HasValue}
 use lib.Ieee.Scale.{overflow, finite}
 use Rattle.order.specs.Order.{place, rank}

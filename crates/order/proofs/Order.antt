@@ -2,8 +2,8 @@
 -- their order is one of numbers, for `omega`. Assumes nothing.
 use mathlib.Core.Path.{_≡_, refl, sym, ap, ap₂, _∙_, subst}
 use mathlib.Core.Logic.{_⊎_, inl, inr}
-use Prim.Native.Nat.{ℕ, zero, suc, _+_, _-_, _*_, _^_, _≤_, _<_}
-use native.Mathlib.Nat.{le-of-lt, le-refl}
+use Prim.Native.Nat.{ℕ, suc, _+_, _-_, _*_, _^_, _≤_, _<_}
+use native.Mathlib.Nat.{le-refl}
 use native.Mathlib.Omega.{arith}
 use mathlib.Core.Bool.{Bool, true, false, not, _&&_, _||_}
 use lib.Dec.{T, not-T, leb, ltb, eqb, leb→le, le→leb, ltb→lt, lt→ltb, nltb→le, eqb→eq}
@@ -12,9 +12,9 @@ use lib.Ieee.{Float, nan, inf, fin, Format, binary64, low, emax, lt, eq, le, fit
 use lib.Ieee.Fits.{and-i, and-l, and-r}
 use lib.Ieee.Scale.{overflow, finite}
 use Rattle.basics.proofs.Choice.{same-bool, order}
-use Rattle.order.specs.Order.{comparable, place, rank, key, OfTwo, OfThree, Ordered, Transitive, SameOrZeros, isZero}
+use Rattle.order.specs.Order.{comparable, place, rank, key, Ordered, Transitive, SameOrZeros, isZero}
 use Rattle.order.proofs.Compare.{is-eqb, le-or, lt-or-eq}
-use Rattle.order.proofs.Held.{Held, held, rank-of, lt-rank, eq-rank}
+use Rattle.order.proofs.Held.{held, rank-of, lt-rank, eq-rank}
 use Rattle.order.proofs.Alike.{Alike, alike, same, zeros, null}
 
 -- what `comparable` says, of any format

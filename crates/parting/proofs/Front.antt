@@ -1,18 +1,17 @@
 -- Values before the cut are at most the lower neighbour, and so at most the threshold; values from the cut on are at least the upper
 -- neighbour, and so above it. Assumes nothing.
-use mathlib.Core.Path.{_≡_, refl, sym, ap, _∙_, subst}
-use Prim.Native.Nat.{ℕ, zero, suc, _+_, _-_, _≤_, _<_}
+use mathlib.Core.Path.{_≡_, _∙_, subst}
+use Prim.Native.Nat.{ℕ, zero, suc, _-_, _≤_, _<_}
 use native.Mathlib.Omega.{arith}
-use mathlib.Core.Bool.{Bool, true, false, not}
+use mathlib.Core.Bool.{not}
 use mathlib.Core.List.{List}
-use lib.ListN.{length, getD}
+use lib.ListN.{length}
 use lib.Dec.{T, not-T, leb, ltb, le→leb, lt→ltb}
 use lib.Ieee.{Float, nan, lt, le}
-use Rattle.basics.specs.Choice.{pick}
-use Rattle.basics.proofs.Choice.{pick-true, order, reach}
+use Rattle.basics.proofs.Choice.{pick-true, reach}
 use Rattle.basics.proofs.Lists.{tally-front}
 use Rattle.order.specs.Order.{comparable, key}
-use Rattle.order.proofs.Order.{lt→, le→, →le}
+use Rattle.order.proofs.Order.{le→, →le}
 use Rattle.threshold.specs.Threshold.{thresholdOf, goesLeft}
 use Rattle.threshold.specs.Laws.{Measured}
 use Rattle.threshold.proofs.Law.{measured-comparable}

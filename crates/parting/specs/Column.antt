@@ -1,6 +1,6 @@
 -- A column sorted by value, and what a threshold does to it. Definitions, and one law as a statement; `proofs/Front.antt` proves it.
 use mathlib.Core.Path.{_≡_}
-use Prim.Native.Nat.{ℕ, zero, suc, _-_, _≤_, _<_}
+use Prim.Native.Nat.{ℕ, suc, _-_, _≤_, _<_}
 use mathlib.Core.List.{List}
 use lib.ListN.{length, getD}
 use lib.Dec.{T, leb, ltb}

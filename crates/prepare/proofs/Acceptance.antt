@@ -1,7 +1,6 @@
 -- What the preparer writes is sound and of the right lengths, and a sound sheet is never refused. Assumes nothing.
-use mathlib.Core.Path.{_≡_, refl, sym, ap, _∙_}
+use mathlib.Core.Path.{_≡_, refl, _∙_}
 use Prim.Native.Nat.{ℕ, _*_}
-use native.Mathlib.Omega.{arith}
 use native.Mathlib.Nat.{mul-comm, mul-one}
 use mathlib.Core.List.{List, [], _∷_}
 use lib.ListN.{length}

@@ -7,7 +7,6 @@ use native.Mathlib.Numerals.{add-one}
 use mathlib.Core.List.{List, [], _∷_, _++_, append-assoc, append-nil}
 use lib.ListN.{List·getD-append, length, getD, take, drop, set, replicate, length-append, length-drop, length-set, length-replicate, drop-of-length-le}
 use lib.Seq.{take-at, drop-cons, drop-drop, drop-append-add, set-at, length-take-le, getD-take, getD-drop, getD-append-add}
-use lib.Dec.{T}
 use lib.Ieee.{Float, nan}
 use borrow.Rule.Slice.PartMut.{midOf, putMid, post-is, same-len-mid}
 use Rattle.basics.proofs.Choice.{reach}

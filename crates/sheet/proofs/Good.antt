@@ -1,12 +1,10 @@
 -- A sound sheet meets no condition of the table: each is the contrary of something that soundness says. Assumes nothing.
-use mathlib.Core.Path.{_≡_, refl, sym, ap, _∙_, subst}
-use mathlib.Core.Logic.{_⊎_, inl, inr, ⊎-elim}
-use Prim.Native.Nat.{ℕ, zero, suc, _+_, _-_, _*_, _≤_, _<_}
+use mathlib.Core.Path.{_≡_, refl, sym, _∙_}
+use mathlib.Core.Logic.{_⊎_, ⊎-elim}
+use Prim.Native.Nat.{ℕ, zero, suc, _-_, _*_, _≤_, _<_}
 use native.Mathlib.Omega.{arith}
-use mathlib.Core.Bool.{Bool, true, false, not}
-use mathlib.Core.List.{List, [], _∷_}
-use lib.Dec.{T, T-not, eqb, eqb→eq}
-use Rattle.basics.specs.Choice.{bit}
+use mathlib.Core.Bool.{Bool}
+use lib.Dec.{T, eqb, eqb→eq}
 use Rattle.basics.specs.Lists.{tally, table}
 use Rattle.basics.proofs.Choice.{bit-true, bit-false, bit-le, decide, eqb-yes}
 use lib.Ieee.{lt}
@@ -14,11 +12,9 @@ use Rattle.order.specs.Order.{comparable}
 use Rattle.order.proofs.Order.{lt→}
 use Rattle.threshold.proofs.Law.{measured-comparable}
 use Rattle.sheet.specs.declared.Terms.{Terms}
-use Rattle.sheet.specs.declared.Checked.the-variants.{Accepted}
 use Rattle.sheet.specs.Limits.{wordsPerRow}
-use Rattle.sheet.specs.Sheet.{Sheet, valueOf, rowAt, valueAt, orderOf, everyRow}
+use Rattle.sheet.specs.Sheet.{Sheet, rowAt, valueAt, orderOf}
 use Rattle.sheet.specs.Sound.{Sound, Column}
-use Rattle.sheet.specs.Check.{checkOf}
 use Rattle.sheet.specs.Laws.{Condition, Lengths, TermsLimited, SoundAccepted}
 use Rattle.sheet.proofs.Exact.{accepted-exactly}
 

@@ -10,14 +10,14 @@ use sheet::SIZE_OUTSIDE;
 use sheet::TERM_ABOVE;
 use sheet::VALUE_OUTSIDE;
 ghost use mathlib.Core.Path.{_≡_};
-ghost use Prim.Native.Nat.{ℕ, suc, _+_, _*_, _%_, _/_, _^_, _≤_, _<_};
+ghost use Prim.Native.Nat.{_+_, _*_, _%_, _/_, _^_, _≤_, _<_};
 ghost use lib.ListN.{length};
 ghost use lib.Seq.{sets};
 ghost use lib.Ieee.{binary64, ofBits};
 ghost use Rattle.basics.specs.Walk.{walk};
 ghost use Rattle.threshold.specs.Threshold.{within};
 ghost use Rattle.sheet_bytes.specs.Bytes.{byteAt, numberAt, marked};
-ghost use Rattle.sheet_bytes.specs.Read.{headOf, startOf, codeOf, cellsOf, cellAt, bitsOf, valueOf, valuesOf, codesOf, headBad, outside, sizeBad, tooLarge, rowBad, further, termsBad, valueBad, codeBad, fromTerms, readOf, Small, Valued, answerOf, valuesIn, codesIn};
+ghost use Rattle.sheet_bytes.specs.Read.{headOf, startOf, codeOf, cellsOf, cellAt, valuesOf, codesOf, headBad, outside, sizeBad, tooLarge, rowBad, further, termsBad, valueBad, codeBad, fromTerms, readOf, Small, Valued, answerOf, valuesIn, codesIn};
 
 // The numbers of the header.
 pub struct Head {

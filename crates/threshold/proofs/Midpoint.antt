@@ -1,16 +1,15 @@
 -- Half of the rounded sum of two finite values, in units of the format's smallest value. Assumes nothing.
-use mathlib.Core.Path.{_≡_, refl, sym, ap, ap₂, _∙_, subst, subst₂}
-use Prim.Native.Nat.{ℕ, zero, suc, _+_, _-_, _*_, _/_, _%_, _^_, _≤_, _<_, zero-le}
-use native.Mathlib.Nat.{le-refl, le-trans, le-of-eq, le-of-lt, lt-of-lt-of-le, lt-of-le-of-lt, zero-lt-suc, mul-one, one-mul, add-mul, mul-sub, mul-assoc, mul-comm, mul-left-comm, mul-right-comm, mul-pos}
+use mathlib.Core.Path.{_≡_, refl, sym, ap, ap₂, _∙_, subst}
+use Prim.Native.Nat.{ℕ, _+_, _-_, _*_, _^_, _≤_, _<_}
+use native.Mathlib.Nat.{le-refl, mul-one, add-mul, mul-sub, mul-comm, mul-left-comm, mul-pos}
 use native.Mathlib.Omega.{arith}
-use mathlib.Core.Bool.{Bool, true, false, not, _&&_, _||_, Bool·beq, cond}
-use lib.IntN.{ℤ, pos}
-use lib.Dec.{T, leb, ltb, eqb, leb→le, le→leb, ltb→lt, lt→ltb, nltb→le}
-use lib.Pow.{pow-pos, pow-lt}
-use lib.Ieee.{Float, nan, inf, fin, Format, prec, emax, low, up, down, unlike, round, sum, add, div, lt, le}
+use mathlib.Core.Bool.{Bool, true, false, _&&_, Bool·beq, cond}
+use lib.Dec.{ltb}
+use lib.Pow.{pow-pos}
+use lib.Ieee.{Float, nan, inf, fin, Format, low, up, down, unlike, round, sum, add, div}
 use lib.Ieee.Fits.{down-pos, two}
 use lib.Ieee.Exact.{HasValue}
-use lib.Ieee.Scale.{grid, overflow, finite, round-same}
+use lib.Ieee.Scale.{overflow, finite, round-same}
 use Rattle.order.proofs.Compare.{ltb-same, left-cross, right-cross}
 use Rattle.threshold.proofs.Rounding.{round-signed, whole, half}
 use Rattle.threshold.specs.Threshold as spec

@@ -1,18 +1,17 @@
 -- A threshold parts a sorted column at its cut: what is at most the lower value goes left, what is at least the upper one right. All of it is
 -- arithmetic on keys, from `between`. Assumes nothing.
-use mathlib.Core.Path.{_≡_, refl, sym, ap, _∙_, subst}
-use Prim.Native.Nat.{ℕ, _≤_, _<_}
+use Prim.Native.Nat.{_≤_, _<_}
 use native.Mathlib.Nat.{le-trans, le-of-lt}
 use native.Mathlib.Omega.{arith}
-use mathlib.Core.Bool.{Bool, true, false, not, _&&_, cond}
+use mathlib.Core.Bool.{Bool, not, _&&_}
 use lib.Dec.{T, T-not, not-T}
-use lib.Ieee.{Float, nan, inf, fin, binary64, add, div, lt, le, fits, isNan}
-use lib.Ieee.Fits.{add-fits, div-fits, cond-fits, and-i, and-l, and-r}
+use lib.Ieee.{Float, nan, inf, fin, binary64, add, lt, le, fits, isNan}
+use lib.Ieee.Fits.{div-fits, cond-fits, and-i, and-l, and-r}
 use Rattle.basics.proofs.Choice.{same-bool, order}
 use Rattle.order.specs.Order.{comparable, key}
 use Rattle.order.proofs.Order.{lt→, →lt, le→, →le}
 use Rattle.threshold.specs.Threshold.{two, midpointOf, thresholdOf, goesLeft, lowest, largest, within}
-use Rattle.threshold.specs.Laws.{Measured, Parted, Parts, InRange}
+use Rattle.threshold.specs.Laws.{Measured, Parts, InRange}
 use Rattle.threshold.proofs.Law.{between, measured-comparable}
 
 -- a threshold is a double, whatever it lies between

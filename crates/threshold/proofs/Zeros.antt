@@ -1,29 +1,28 @@
 -- `thresholdOf` does not tell 0.0 from -0.0: an upper value may be replaced by an equal one, and so may a lower value that is below a finite upper one.
 -- Assumes nothing.
-use mathlib.Core.Path.{_≡_, refl, sym, ap, ap₂, _∙_, subst, subst₂}
-use mathlib.Core.Logic.{_⊎_, inl, inr}
-use Prim.Native.Nat.{ℕ, zero, suc, _+_, _-_, _*_, _/_, _%_, _^_, _≤_, _<_, zero-le}
-use native.Mathlib.Nat.{le-refl, le-trans, le-of-eq, le-of-lt, lt-of-lt-of-le, lt-of-le-of-lt, zero-lt-suc, lt-irrefl, le-suc, zero-mul, mul-one, add-zero, zero-add, sub-zero, mul-pos, mul-div-cancel}
+use mathlib.Core.Path.{_≡_, refl, sym, ap, _∙_, subst}
+use Prim.Native.Nat.{ℕ, zero, suc, _+_, _-_, _*_, _^_, _≤_, _<_}
+use native.Mathlib.Nat.{le-of-lt, lt-of-lt-of-le, lt-of-le-of-lt, zero-lt-suc, lt-irrefl, le-suc, zero-mul, add-zero, zero-add, sub-zero, mul-pos}
 use native.Mathlib.Omega.{arith}
-use mathlib.Core.Bool.{Bool, true, false, not, _&&_, _||_, Bool·beq, cond}
-use lib.IntN.{ℤ, pos, negsuc}
-use lib.Dec.{T, leb, ltb, eqb, leb→le, le→leb, ltb→lt, lt→ltb, nltb→le, eqb→eq, lit<, lit≤}
-use lib.Pow.{pow-pos, pow-lt, pow-mono, shl-lt}
-use lib.Ieee.{Float, nan, inf, fin, Format, binary64, prec, emax, low, up, down, below, level, size, round, sum, add, div, lt, le, eq, fits, top, hid, toBits, ofBits}
-use lib.Ieee.Bits.{is-true, ofBits-toBits}
+use mathlib.Core.Bool.{Bool, true, false, not, cond}
+use lib.IntN.{ℤ, pos}
+use lib.Dec.{T, ltb, ltb→lt, lt→ltb, lit<, lit≤}
+use lib.Pow.{pow-pos, shl-lt}
+use lib.Ieee.{Float, nan, inf, fin, Format, binary64, low, up, down, below, size, round, sum, add, div, lt, fits}
+use lib.Ieee.Bits.{is-true}
 use lib.Ieee.Positive.{first-pos, value-pos}
-use lib.Ieee.Fits.{and-l, and-r, up-pos, down-pos}
+use lib.Ieee.Fits.{up-pos, down-pos}
 use lib.Ieee.Exact.{HasValue}
 use lib.Ieee.Scale.{grid, overflow, finite}
 use Rattle.basics.proofs.Choice.{same-bool}
-use Rattle.order.proofs.Compare.{lt-is, eq-is}
-use Rattle.order.proofs.Held.{Held, held}
+use Rattle.order.proofs.Compare.{lt-is}
+use Rattle.order.proofs.Held.{held}
 use Rattle.order.proofs.Alike.{Alike, alike, same, zeros, null, null-value, null-fits, same-value}
 use Rattle.threshold.proofs.Rounding.{whole, half, grid-exact, half-exact, half-le, twice}
 use Rattle.threshold.proofs.Midpoint.{add-is, midpoint-is}
 use Rattle.threshold.specs.Threshold as spec
-use Rattle.threshold.specs.Threshold.{midpointOf, thresholdOf}
-use Rattle.threshold.specs.Laws.{Measured, EitherZeroUpper, EitherZeroLower}
+use Rattle.threshold.specs.Threshold.{thresholdOf}
+use Rattle.threshold.specs.Laws.{EitherZeroUpper, EitherZeroLower}
 use Rattle.threshold.proofs.Law.{within-finite}
 
 -- ---- a zero added to another number, on either side

@@ -1,6 +1,6 @@
 -- `cut_scan::scan_listed` meets its contract: a listed cut of an accepted sheet can be tried. Assumes nothing.
 use mathlib.Core.Path.{refl}
-use Prim.Native.Nat.{ℕ, _<_}
+use Prim.Native.Nat.{_<_}
 use native.Mathlib.Omega.{arith}
 use borrow.Author.Needs.{needs}
 use Rattle.sheet.specs.Sheet.{Sheet, countOf}

@@ -1,5 +1,5 @@
 -- `cut_scan::try_times` meets its contract. The loop's invariant: the tree is that of the cut, and the lent words are as good as before. Assumes nothing.
-use mathlib.Core.Path.{_≡_, refl, _∙_}
+use mathlib.Core.Path.{_≡_, refl}
 use Prim.Native.Nat.{ℕ, _-_, _≤_}
 use native.Mathlib.Omega.{arith}
 use mathlib.Core.List.{List}

@@ -1,8 +1,7 @@
 -- `interval_queue::cut` meets its contract. Assumes nothing.
-use mathlib.Core.Path.{_≡_, refl, sym, ap, _∙_}
+use mathlib.Core.Path.{_≡_, refl, ap, _∙_}
 use Prim.Native.Nat.{ℕ, zero, suc, _-_, _<_}
 use native.Mathlib.Omega.{arith}
-use Rattle.interval_pruner.specs.declared.Tried.{Tried}
 use Rattle.interval_pruner.specs.declared.Tried.the-variants.{Nothing, Cut}
 use Rattle.interval_queue.specs.Ring.{cutOf}
 use borrow.Author.Needs.{needs}

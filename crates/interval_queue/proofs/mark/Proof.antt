@@ -1,8 +1,7 @@
 -- `interval_queue::mark` meets its contract, case by case. Assumes nothing.
 use mathlib.Core.Path.{_≡_, sym, ap, _∙_}
-use Prim.Native.Nat.{ℕ, _+_, _<_, _≤_}
+use Prim.Native.Nat.{ℕ, _+_, _≤_}
 use native.Mathlib.Omega.{arith}
-use Rattle.interval_pruner.specs.declared.Tried.the-variants.{Nothing, Cut}
 use Rattle.interval_queue.specs.Ring.{wordOf, markOf}
 use borrow.Author.Needs.{needs}
 use Rattle.interval_queue.proofs.mark.Statement.{statement}

@@ -1,9 +1,8 @@
 -- `interval_queue::pop` meets its contract: each return is the definition's case. Assumes nothing.
-use mathlib.Core.Path.{_≡_, refl, sym, ap, ap₂, _∙_}
+use mathlib.Core.Path.{sym, ap₂, _∙_}
 use Prim.Native.Nat.{ℕ, _-_}
 use native.Mathlib.Omega.{arith}
 use Rattle.interval_pruner.specs.declared.Bound.{Bound}
-use Rattle.interval_queue.specs.declared.Popped.{Popped}
 use Rattle.interval_queue.proofs.Cases.{pop-out, pop-none, pop-some}
 use borrow.Author.Needs.{needs}
 use Rattle.interval_queue.proofs.pop.Statement.{statement}

@@ -1,6 +1,6 @@
 -- `interval_queue::push` meets its contract: each return is the definition's case. Assumes nothing.
-use mathlib.Core.Path.{_≡_, refl, sym, ap, ap₂, _∙_}
-use Prim.Native.Nat.{ℕ, _+_, _*_}
+use mathlib.Core.Path.{sym, ap, _∙_}
+use Prim.Native.Nat.{ℕ, _*_}
 use native.Mathlib.Omega.{arith}
 use Rattle.interval_queue.specs.Ring.{stored}
 use Rattle.interval_queue.proofs.Cases.{push-out, push-out-words, push-full, push-full-words, push-room, push-room-words}

@@ -1,5 +1,5 @@
 -- `interval_queue::slot` meets its contract: one step past the end is the front again. Assumes nothing.
-use mathlib.Core.Path.{_≡_, sym}
+use mathlib.Core.Path.{sym}
 use lib.Dec.{lt→ltb, not-T, ltb→lt, ltb}
 use native.Mathlib.Omega.{arith}
 use Rattle.basics.proofs.Choice.{pick-true, pick-false}

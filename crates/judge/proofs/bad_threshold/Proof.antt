@@ -1,6 +1,6 @@
 -- `judge::bad_threshold` meets its contract: it goes by the definition's two cases. Assumes nothing.
 use borrow.Author.Needs.{needs}
-use mathlib.Core.Path.{_≡_, sym, ap, _∙_}
+use mathlib.Core.Path.{sym, ap, _∙_}
 use mathlib.Core.Bool.{not}
 use Rattle.judge.specs.Judge.{badThreshold}
 use Rattle.judge.proofs.bad_threshold.Statement.{statement}

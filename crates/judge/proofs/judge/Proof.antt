@@ -1,19 +1,18 @@
 -- `judge::judge` meets its contract: each reason in its turn, and then the tree. Assumes nothing.
-use mathlib.Core.Path.{_≡_, refl, sym, ap, _∙_, subst}
-use Prim.Native.Nat.{ℕ, _≤_, _<_}
-use mathlib.Core.Bool.{Bool, true, false, not}
+use mathlib.Core.Path.{_≡_, sym, ap, _∙_}
+use Prim.Native.Nat.{ℕ}
+use mathlib.Core.Bool.{not}
 use mathlib.Core.List.{[]}
 use native.Mathlib.Omega.{arith}
 use borrow.Author.Needs.{needs}
-use borrow.Author.Tests.{not-true, not-false}
-use lib.ListN.{length}
+use borrow.Author.Tests.{not-false}
 use lib.Dec.{T}
 use Rattle.basics.specs.Walk.{walk}
 use Rattle.sheet.specs.Sheet.{Sheet}
 use Rattle.sheet.specs.Sound.{Limited}
 use Rattle.sheet.specs.Reasons.{sizeOutside, lengthWrong, valueOutside, labelHigh}
 use Rattle.sheet.specs.Check.{sheetOf, cellsOf, sizeHolds, badValue, badLabel}
-use Rattle.sheet.proofs.Search.{truth, untruth}
+use Rattle.sheet.proofs.Search.{truth}
 use Rattle.sheet.proofs.Answer.{limited}
 use Rattle.tree.specs.declared.Tree.{Tree}
 use Rattle.judge.specs.declared.Verdict.{Verdict}

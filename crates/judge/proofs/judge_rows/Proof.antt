@@ -1,5 +1,4 @@
 -- `judge::judge_rows` meets its contract: what was seen of the two sides, summed up. Assumes nothing.
-use mathlib.Core.Path.{_≡_}
 use Prim.Native.Nat.{_≤_, _*_}
 use mathlib.Core.List.{[]}
 use native.Mathlib.Omega.{arith}

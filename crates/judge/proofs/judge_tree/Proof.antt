@@ -1,6 +1,6 @@
 -- `judge::judge_tree` meets its contract: each test is its reason's, in the order of the numbers and the places. Assumes nothing.
-use mathlib.Core.Path.{_≡_, refl, sym, ap, _∙_}
-use mathlib.Core.Bool.{Bool, true, false, not}
+use mathlib.Core.Path.{_≡_, sym, ap, _∙_}
+use mathlib.Core.Bool.{false, not}
 use mathlib.Core.List.{[]}
 use borrow.Author.Needs.{needs}
 use borrow.Author.Tests.{lt-leb, le-leb}
@@ -11,7 +11,7 @@ use Rattle.sheet.specs.Check.{sheetOf}
 use Rattle.sheet.proofs.Search.{untruth}
 use Rattle.tree.specs.declared.Tree.{Tree}
 use Rattle.judge.specs.declared.Verdict.{Verdict}
-use Rattle.judge.specs.declared.Verdict.the-variants.{TurnedBack, Judged}
+use Rattle.judge.specs.declared.Verdict.the-variants.{Judged}
 use Rattle.judge.specs.Reasons.{columnHigh, leafHigh, thresholdEndless, atRoot, atLeft, atRight}
 use Rattle.judge.specs.Judge.{badColumn, badLeaf, badThreshold, treeChecked}
 use Rattle.judge.proofs.Reasons.{back-stop, back-go, rest1, rest2, rest3, rest4, rest5, rest6, rest7, rest8, tree-checked}

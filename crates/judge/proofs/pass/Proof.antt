@@ -1,9 +1,9 @@
 -- `judge::pass` meets its contract. The loop's invariant: what was seen of each side is what the definition counts over the rows passed. Assumes
 -- nothing.
-use mathlib.Core.Path.{_≡_, refl, sym, ap, _∙_, subst}
+use mathlib.Core.Path.{_≡_, sym, ap, _∙_, subst}
 use mathlib.Core.Logic.{⊎-elim}
 use Prim.Native.Nat.{ℕ, _+_, _*_, _-_, _≤_, _<_}
-use mathlib.Core.Bool.{true, false, not}
+use mathlib.Core.Bool.{not}
 use mathlib.Core.List.{[]}
 use native.Mathlib.Omega.{arith}
 use borrow.Author.Needs.{needs}
@@ -13,7 +13,6 @@ use Rattle.sheet.specs.Sheet.{Sheet, valueOf}
 use Rattle.sheet.specs.Check.{sheetOf}
 use Rattle.sheet.proofs.Index.{column-in}
 use Rattle.sheet.proofs.Search.{truth, untruth}
-use Rattle.judge.specs.declared.Seen.{Seen}
 use Rattle.judge.specs.Mistakes.{rootLeftward, rootRightward}
 use Rattle.judge.specs.Passing.{Within, seenOf, nextOf}
 use Rattle.judge.proofs.Passing.{cell, seen-none, seen-comes, seen-stays, seen-within, passed}

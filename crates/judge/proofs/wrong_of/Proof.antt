@@ -1,6 +1,6 @@
 -- `judge::wrong_of` meets its contract: it goes by the definition's two cases. Assumes nothing.
 use borrow.Author.Needs.{needs}
-use mathlib.Core.Path.{_≡_, sym, ap}
+use mathlib.Core.Path.{sym, ap}
 use Rattle.judge.specs.Passing.{wrongOf}
 use Rattle.judge.proofs.wrong_of.Statement.{statement}
 use Rattle.judge.proofs.wrong_of.Tie as tie

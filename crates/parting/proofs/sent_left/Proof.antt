@@ -1,6 +1,6 @@
 -- `parting::sent_left` meets its contract. The loop's invariant: `sent` counts those of the first i values that go left. Assumes nothing.
 use mathlib.Core.Logic.{⊎-elim}
-use mathlib.Core.Path.{_≡_, refl, sym, ap, _∙_, subst}
+use mathlib.Core.Path.{_≡_, sym, ap, _∙_}
 use Prim.Native.Nat.{ℕ, _+_, _-_, _≤_, _<_}
 use mathlib.Core.Bool.{Bool, true, false}
 use mathlib.Core.List.{List}
@@ -13,7 +13,7 @@ use lib.Seq.{take-all}
 use lib.Ieee.{Float, nan}
 use borrow.Author.Needs.{needs}
 use Rattle.basics.specs.Lists.{tally}
-use Rattle.basics.proofs.Lists.{tally-le, tally-next}
+use Rattle.basics.proofs.Lists.{tally-next}
 use Rattle.threshold.specs.Threshold.{goesLeft}
 use Rattle.parting.specs.Column.{leftOf}
 use Rattle.parting.proofs.sent_left.Statement.{statement}

@@ -1,8 +1,8 @@
 -- `threshold::in_range` meets its contract: `&&` is its second test where the first passes, and false where it fails. Assumes nothing.
-use mathlib.Core.Path.{_≡_, refl, sym, ap}
+use mathlib.Core.Path.{sym, ap}
 use mathlib.Core.Bool.{Bool, _&&_}
-use lib.Ieee.{Float, le, ofBits}
-use Rattle.threshold.specs.Threshold.{within, lowest, largest}
+use lib.Ieee.{le, ofBits}
+use Rattle.threshold.specs.Threshold.{within, largest}
 use Rattle.threshold.proofs.in_range.Statement.{statement}
 use Rattle.threshold.proofs.in_range.Tie as tie
 
