@@ -1,184 +1,283 @@
--- The scan of a column, row by row: what the loop keeps, that a row may be taken where the loop takes it, and what the loop has when it ends. Each turn is one
--- unfolding of the definition. Assumes nothing.
-use Prim.Native.Nat.{ℕ, suc, _+_, _-_, _≤_, _<_}
+-- One side's scan of a column by numbers: its counts, the count up to which its rows are skipped, its last row and its best. They stand for the record of
+-- the definition while the side is open; once it is closed only its best is looked at. Every row keeps that (`Stands`). Assumes nothing.
+use Prim.Native.Nat.{ℕ, _+_, _-_, _*_, _≤_, _<_}
 use native.Mathlib.Omega.{arith}
-use native.Mathlib.Numerals.{add-one}
 use mathlib.Core.Path.{_≡_, refl, sym, ap, subst, _∙_}
 use mathlib.Core.Bool.{Bool, true, false, not, _&&_, _||_}
-use mathlib.Core.List.{List, _∷_}
+use mathlib.Core.List.{List, [], _∷_}
 use lib.ListN.{length, getD}
-use lib.Dec.{T, leb, eqb}
-use lib.Ieee.{Float}
+use lib.Dec.{T, leb, ltb, eqb, ltb→lt, lt→ltb, nltb→le, leb→le, nleb→lt}
+use borrow.Author.Tests.{lt-ltb}
+use lib.Ieee.{Float, nan, eq}
 use Rattle.basics.specs.Choice.{pick}
-use Rattle.basics.specs.Lists.{tally, those}
+use Rattle.basics.specs.Lists.{tally}
+use Rattle.basics.proofs.Choice.{order, reach, decide, same-bool, pick-true, pick-false, and-left, nor-left, nor-right}
 use Rattle.basics.proofs.Lists.{tally-le}
 use Rattle.sheet.specs.Limits.{mostRows}
-use Rattle.sheet.specs.Sheet.{Sheet, valueOf, labelOf, rowAt}
+use Rattle.sheet.specs.Sheet.{Sheet, valueOf, labelOf}
+use Rattle.leaves_score.specs.declared.Best.{Best}
+use Rattle.leaves_score.specs.declared.Cut.{Cut}
+use Rattle.leaves_score.specs.declared.Verdict.{Verdict}
 use Rattle.leaves_score.specs.declared.SideScan.{SideScan}
-use Rattle.leaves_score.specs.declared.Standing.{Standing}
-use Rattle.leaves_score.specs.declared.Two.{Two}
-use Rattle.leaves_score.specs.Scan.{other, stepOf, rowStep, stepBoth, idle, ended, scanRows}
-use Rattle.leaves_score.specs.Kept.{rowsFrom, Fits, Live}
-use Rattle.leaves_score.specs.Step.{Ready, whole, standing, Stepped}
-use Rattle.leaves_score.proofs.Live.{live-left, live-right, left-is, right-is}
-use Rattle.leaves_score.proofs.Kept.{Same, same-itself, same-trans, step-same, joined}
+use Rattle.leaves_score.specs.Scan.{nought, noRows, cleared, fallen, quiet, rowsLeft, rightBest, supported, takes, bestAfter, skipAfter, closes, totalOf, raised, countRow, onlyCounted, scored, rowStep}
+use Rattle.leaves_score.specs.Kept.{through, Counts, Open, Live}
+use Rattle.leaves_score.specs.Step.{peaksOf, verdictOf, splitBy, passed, untilAfter, cutOf, Scorable, atStart}
+use Rattle.leaves_score.proofs.Counts.{counts-step}
+use Rattle.leaves_score.proofs.Live.{open-counted, open-scored}
+use Rattle.leaves_score.proofs.Single.{shut, frozen}
+use Rattle.leaves_score.proofs.Steps.{verdict-is, best-is, opened}
 
--- ---- a side that has the row to come can take it
+-- ---- tests
 
-pub ready : (s : Sheet) (r : ℕ) (rs : List ℕ) (t : SideScan) → labelOf s r < t .labels → t .size ≤ mostRows → Fits s (r ∷ rs) t → Ready t (labelOf s r)
-ready s r rs t coded small h =
-    record {
-      some = h .some;
-      few = h .most;
-      coded = coded;
-      more = omega (arith, h .rows);
-      small = small;
-      own = λ l k. omega (arith, h .sums l k);
-      seen = h .few;
-      left = λ l k. to-come (getD (t .own) l 0) (getD (t .seen) l 0) (tally (λ r. eqb (labelOf s r) l) (r ∷ rs)) (length (r ∷ rs)) (t .counted) (t .size)
-          (h .sums l k) (tally-le (λ r. eqb (labelOf s r) l) (r ∷ rs)) (h .rows);
-    }
-  where
-    to-come : (own seen rest all counted size : ℕ) → seen + rest ≡ own → rest ≤ all → counted + all ≡ size → own - seen ≤ size - counted
-    to-come own seen rest all counted size a b c = omega arith
-
--- ---- the sides that a row leaves alone
-
-pub pick-yes : {A : Type 0} (b : Bool) (x y : A) → b ≡ true → pick b x y ≡ x
+and-picked : (a : Bool) (x n v : Float) → (a && eq (pick a x n) v) ≡ (a && eq x v)
 unfolding pick
-pick-yes b x y e = rw e
+and-picked true x n v = refl
+and-picked false x n v = refl
 
-pub pick-no : {A : Type 0} (b : Bool) (x y : A) → b ≡ false → pick b x y ≡ y
-unfolding pick
-pick-no b x y e = rw e
+or-swap : (a b : Bool) → (a || b) ≡ (b || a)
+or-swap true true = refl
+or-swap true false = refl
+or-swap false true = refl
+or-swap false false = refl
 
--- ---- the loop
+-- a skip that has fallen is above 0 as long as the count is not reached
+skips-on : (rows until : ℕ) → ltb (rows + 1) until ≡ ltb 0 (fallen (until - rows))
+skips-on rows until =
+    same-bool (ltb (rows + 1) until) (ltb 0 (fallen (until - rows))) (λ t. lt→ltb 0 (fallen (until - rows)) (omega (arith, ltb→lt (rows + 1) until t)))
+    (λ t. lt→ltb (rows + 1) until (omega (arith, ltb→lt 0 (fallen (until - rows)) t)))
 
-module _ (s : Sheet) (mark : ℕ → Bool) (c : ℕ) where
-  -- what is left to do from place i on gives what the whole column gives, and each side has its rows to come
-  pub record Going (i : ℕ) (b z : Two) : Type 0 where
-    pub within : i ≤ s .rows
-    pub same : scanRows s mark c (s .rows - i) i b ≡ scanRows s mark c (s .rows) 0 z
-    pub left-live : Live s (those mark (rowsFrom s c (s .rows - i) i)) (b .left)
-    pub right-live : Live s (those (other mark) (rowsFrom s c (s .rows - i) i)) (b .right)
-    pub left-same : Same (b .left) (z .left)
-    pub right-same : Same (b .right) (z .right)
-
-  pub begins : (z : Two) → Live s (those mark (rowsFrom s c (s .rows) 0)) (z .left) → Live s (those (other mark) (rowsFrom s c (s .rows) 0)) (z .right) → Going 0 z z
-  begins z l r =
-      let e : s .rows - 0 ≡ s .rows = omega arith in
+module _ (s : Sheet) (c : ℕ) (z : SideScan) where
+  -- the record that the numbers stand for, while the side is open
+  abbrev pub shown : List ℕ → ℕ → ℕ → ℕ → Best → SideScan
+  shown seen rows until last best =
       record {
-        within = omega arith;
-        same = ap (λ (n : ℕ). scanRows s mark c n 0 z) e;
-        left-live = subst (λ (n : ℕ). Live s (those mark (rowsFrom s c n 0)) (z .left)) (sym e) l;
-        right-live = subst (λ (n : ℕ). Live s (those (other mark) (rowsFrom s c n 0)) (z .right)) (sym e) r;
-        left-same = same-itself (z .left);
-        right-same = same-itself (z .right);
+        own = z .own;
+        size = z .size;
+        labels = z .labels;
+        least = z .least;
+        best = best;
+        seen = seen;
+        counted = rows;
+        skip = until - rows;
+        closed = false;
+        started = ltb 0 rows;
+        previous = pick (ltb 0 rows) (valueOf s c last) nought;
       }
 
-  module _ (i : ℕ) (b z : Two) (g : Going i b z) where
-    -- after the last row
-    pub finished : s .rows ≤ i → b ≡ scanRows s mark c (s .rows) 0 z
-    unfolding scanRows
-    finished h =
-        let e : s .rows - i ≡ 0 = omega arith in
-        ap (λ (n : ℕ). scanRows s mark c n i b) (sym e) ∙ g .same
+  -- what is to come of the rows leads to the target; a closed side has reached it
+  pub record Stands (target : SideScan) (rest seen : List ℕ) (rows until last : ℕ) (best : Best) : Type 0 where
+    pub counts : Counts s rest (z .own) seen (z .labels) (z .size) rows
+    pub among : last < s .rows
+    pub hope : until ≤ z .size → Open s rest (shown seen rows until last best)
+    pub same : until ≤ z .size → cleared (through s c rest (shown seen rows until last best)) ≡ target
+    pub shut-at : z .size < until → cleared (shown seen rows until last best) ≡ target
 
-    module _ (h : i < s .rows) where
-      abbrev row : ℕ
-      row = rowAt s c i
+  -- ---- a row counted
 
-      abbrev next : Two
-      next = stepBoth s mark c row b
+  counted-is : (seen : List ℕ) (rows until last : ℕ) (best found : Best) (skip next label r : ℕ) (closed : Bool) → closed ≡ false → next - (rows + 1) ≡ skip
+      → countRow (shown seen rows until last best) found skip closed label (valueOf s c r) ≡ shown (raised seen label) (rows + 1) next r found
+  unfolding countRow
+  counted-is seen rows until last best found skip next label r closed e k =
+      let started : ltb 0 (rows + 1) ≡ true = lt-ltb 0 (rows + 1) (omega arith) in
+      let previous : pick (ltb 0 (rows + 1)) (valueOf s c r) nought ≡ valueOf s c r = pick-true (ltb 0 (rows + 1)) (valueOf s c r) nought (subst T (sym started) tt) in
+      cc
 
-      one-more : s .rows - i ≡ suc (s .rows - (i + 1))
-      one-more = omega arith
+  quiet-is : (seen : List ℕ) (rows until last r : ℕ) (best : Best)
+      → quiet (shown seen rows until last best) (valueOf s c r) ≡ passed (s .values) (c * s .rows) r last rows until
+  unfolding quiet passed valueOf
+  quiet-is seen rows until last r best =
+      ap (λ (b : Bool). b || ltb 0 (fallen (until - rows))) (and-picked (ltb 0 rows) (valueOf s c last) nought (valueOf s c r))
+      ∙ or-swap (ltb 0 rows && eq (valueOf s c last) (valueOf s c r)) (ltb 0 (fallen (until - rows)))
+      ∙ sym (ap (λ (b : Bool). b || (ltb 0 rows && eq (valueOf s c last) (valueOf s c r))) (skips-on rows until))
 
-      unrolled : scanRows s mark c (suc (s .rows - (i + 1))) i b ≡ pick (ended next) next (scanRows s mark c (s .rows - (i + 1)) (i + 1) next)
-      unfolding scanRows
-      unrolled = rw add-one
+  -- ---- a row of the side
 
-      turn : pick (ended next) next (scanRows s mark c (s .rows - (i + 1)) (i + 1) next) ≡ scanRows s mark c (s .rows) 0 z
-      turn = sym unrolled ∙ ap (λ (n : ℕ). scanRows s mark c n i b) (sym one-more) ∙ g .same
+  module _ (target : SideScan) (r : ℕ) (rs seen : List ℕ) (rows until last : ℕ) (best : Best) (h : Stands target (r ∷ rs) seen rows until last best) (here : r < s .rows) where
+    abbrev now : SideScan
+    now = shown seen rows until last best
 
-      to-come : rowsFrom s c (s .rows - i) i ≡ row ∷ rowsFrom s c (s .rows - (i + 1)) (i + 1)
-      unfolding rowsFrom
-      to-come = ap (λ (n : ℕ). rowsFrom s c n i) one-more ∙ rw add-one
+    pub room : rows < z .size
+    room = omega (arith, h .counts .rows)
 
-      left-now : Live s (those mark (row ∷ rowsFrom s c (s .rows - (i + 1)) (i + 1))) (b .left)
-      left-now = subst (λ (rs : List ℕ). Live s (those mark rs) (b .left)) to-come (g .left-live)
+    next-counts : Counts s rs (z .own) (raised seen (labelOf s r)) (z .labels) (z .size) (rows + 1)
+    next-counts = counts-step s r rs (z .own) seen (z .labels) (z .size) rows (h .counts)
 
-      right-now : Live s (those (other mark) (row ∷ rowsFrom s c (s .rows - (i + 1)) (i + 1))) (b .right)
-      right-now = subst (λ (rs : List ℕ). Live s (those (other mark) rs) (b .right)) to-come (g .right-live)
+    -- that is only counted
+    pub passes : passed (s .values) (c * s .rows) r last rows until ≡ true → Stands target rs (raised seen (labelOf s r)) (rows + 1) until r best
+    unfolding through cleared
+    passes e =
+        record {
+          counts = next-counts;
+          among = here;
+          hope = λ k. subst (λ (t : SideScan). Open s rs t) step (open-counted s c r rs now (h .hope k));
+          same = λ k. ap (λ (t : SideScan). cleared (through s c rs t)) (sym (row ∙ step)) ∙ h .same k;
+          shut-at = h .shut-at;
+        }
+      where
+        step : onlyCounted now (labelOf s r) (valueOf s c r) ≡ shown (raised seen (labelOf s r)) (rows + 1) until r best
+        step = unfold onlyCounted in counted-is seen rows until last best best (fallen (until - rows)) until (labelOf s r) r false refl (omega arith)
 
-      -- the column ends early
-      pub stops : ended next ≡ true → next ≡ scanRows s mark c (s .rows) 0 z
-      stops e = sym (pick-yes (ended next) next _ e) ∙ turn
+        row : rowStep s c r now ≡ onlyCounted now (labelOf s r) (valueOf s c r)
+        row = unfold pick in opened now c (labelOf s r) (valueOf s c r) true refl (quiet-is seen rows until last r best ∙ e)
 
-      stepped-left : Same (next .left) (b .left)
-      stepped-left =
-          subst (λ (t : SideScan). Same t (b .left)) (sym (left-is s mark c row b)) (either (mark row))
+    -- whose cut is scored: the skip has fallen to 0, and the side is open
+    module _ (e : passed (s .values) (c * s .rows) r last rows until ≡ false) where
+      low : until ≤ rows + 1
+      unfolding passed
+      low = nltb→le (rows + 1) until (nor-left (ltb (rows + 1) until) (ltb 0 rows && eq (getD (s .values) (c * s .rows + last) nan) (getD (s .values) (c * s .rows + r) nan)) (subst (λ (b : Bool). T (not b)) (sym e) tt))
+
+      is-open : until ≤ z .size
+      is-open = omega (arith, low, room)
+
+      row-is : rowStep s c r now ≡ scored now c (labelOf s r) (valueOf s c r)
+      row-is = unfold pick in opened now c (labelOf s r) (valueOf s c r) false refl (quiet-is seen rows until last r best ∙ e)
+
+      leads : cleared (through s c rs (scored now c (labelOf s r) (valueOf s c r))) ≡ target
+      unfolding through
+      leads = ap (λ (t : SideScan). cleared (through s c rs t)) (sym row-is) ∙ h .same is-open
+
+      verdict : verdictOf (peaksOf (z .own) seen (z .labels)) rows (z .size - rows) (z .least) (best .score) 0
+          ≡ record { taken = takes now; total = totalOf now; skip = skipAfter now; closed = closes now }
+      verdict =
+          ap (λ (n : ℕ). verdictOf (peaksOf (z .own) seen (z .labels)) rows (z .size - rows) (z .least) (best .score) n) none ∙ verdict-is now
         where
-          either : (m : Bool) → Same (pick m (rowStep s c row (b .left)) (b .left)) (b .left)
-          either true = unfold pick in step-same (b .left) c (labelOf s row) (valueOf s c row)
-          either false = unfold pick in same-itself (b .left)
+          none : 0 ≡ fallen (until - rows)
+          none = omega (arith, low)
 
-      stepped-right : Same (next .right) (b .right)
-      stepped-right =
-          subst (λ (t : SideScan). Same t (b .right)) (sym (right-is s mark c row b)) (either (other mark row))
+      best-now : 1 ≤ z .least → pick (takes now) (splitBy (peaksOf (z .own) seen (z .labels)) rows (z .size - rows) c (valueOf s c last) (valueOf s c r)) best
+          ≡ bestAfter now c (valueOf s c r)
+      best-now k = between ∙ best-is now c (valueOf s c r)
         where
-          either : (m : Bool) → Same (pick m (rowStep s c row (b .right)) (b .right)) (b .right)
-          either true = unfold pick in step-same (b .right) c (labelOf s row) (valueOf s c row)
-          either false = unfold pick in same-itself (b .right)
+          split : Float → Best
+          split v = splitBy (peaksOf (z .own) seen (z .labels)) rows (z .size - rows) c v (valueOf s c r)
 
-      -- or goes on
-      pub goes-on : ended next ≡ false → Going (i + 1) next z
-      goes-on e =
-          record {
-            within = omega arith;
-            same = sym (pick-no (ended next) next (scanRows s mark c (s .rows - (i + 1)) (i + 1) next) e) ∙ turn;
-            left-live = live-left s mark c row b (rowsFrom s c (s .rows - (i + 1)) (i + 1)) left-now;
-            right-live = live-right s mark c row b (rowsFrom s c (s .rows - (i + 1)) (i + 1)) right-now;
-            left-same = same-trans (next .left) (b .left) (z .left) stepped-left (g .left-same);
-            right-same = same-trans (next .right) (b .right) (z .right) stepped-right (g .right-same);
-          }
+          with-support : T (takes now) → T (supported now)
+          with-support t = and-left (supported now) (ltb (best .score) (totalOf now)) (unfold takes in t)
 
-      -- ---- its row
+          counts-some : T (takes now) → 1 ≤ rows
+          counts-some t = omega (arith, k, leb→le (z .least) rows (and-left (leb (z .least) rows) (leb (z .least) (rowsLeft now)) (unfold supported in with-support t)))
 
-      closed-not : (b : Bool) → b ≡ false → T (not b)
-      closed-not b e = rw e tt
+          between : pick (takes now) (split (valueOf s c last)) best ≡ pick (takes now) (split (now .previous)) best
+          between =
+              decide (takes now)
+              (λ t. ap (λ (v : Float). pick (takes now) (split v) best) (sym (pick-true (ltb 0 rows) (valueOf s c last) nought (lt→ltb 0 rows (counts-some t)))))
+              (λ t. pick-false (takes now) _ _ t ∙ sym (pick-false (takes now) _ _ t))
 
-      pub ready-left : mark row ≡ true → labelOf s row < z .left .labels → z .left .size ≤ mostRows → b .left .closed ≡ false → Ready (b .left) (labelOf s row)
-      ready-left m coded small o =
-          let rs = those mark (rowsFrom s c (s .rows - (i + 1)) (i + 1)) in
-          ready s row rs (b .left) (rw (g .left-same .labels) coded) (rw (g .left-same .size) small)
-          (subst (λ (xs : List ℕ). Fits s xs (b .left)) (pick-yes (mark row) (row ∷ rs) rs m) (left-now (closed-not (b .left .closed) o) .fits))
+      module _ (some : 1 ≤ z .least) (k : Cut) (found : Best) (ek : k ≡ cutOf (z .own) seen (z .labels) rows (z .size) (z .least) (best .score))
+          (ef : found ≡ pick (k .taken) (splitBy (k .peaks) rows (z .size - rows) c (valueOf s c last) (valueOf s c r)) best) where
+        until-is : k .until ≡ pick (closes now) (z .size + 1) (rows + 1 + skipAfter now)
+        unfolding cutOf untilAfter
+        until-is = ap (λ (k : Cut). k .until) ek ∙ ap (λ (v : Verdict). pick (v .closed) (z .size + 1) (rows + 1 + v .skip)) verdict
 
-      pub ready-right : mark row ≡ false → labelOf s row < z .right .labels → z .right .size ≤ mostRows → b .right .closed ≡ false → Ready (b .right) (labelOf s row)
-      ready-right m coded small o =
-          let rs = those (other mark) (rowsFrom s c (s .rows - (i + 1)) (i + 1)) in
-          ready s row rs (b .right) (rw (g .right-same .labels) coded) (rw (g .right-same .size) small)
-          (subst (λ (xs : List ℕ). Fits s xs (b .right)) (pick-yes (other mark row) (row ∷ rs) rs (ap not m)) (right-now (closed-not (b .right .closed) o) .fits))
+        found-is : found ≡ bestAfter now c (valueOf s c r)
+        unfolding cutOf
+        found-is =
+            ef
+            ∙ ap (λ (k : Cut). pick (k .taken) (splitBy (k .peaks) rows (z .size - rows) c (valueOf s c last) (valueOf s c r)) best) ek
+            ∙ ap (λ (v : Verdict). pick (v .taken) (splitBy (peaksOf (z .own) seen (z .labels)) rows (z .size - rows) c (valueOf s c last) (valueOf s c r)) best) verdict
+            ∙ best-now some
 
-      pub to-left : (t : SideScan) → mark row ≡ true → t ≡ rowStep s c row (b .left) → record { left = t; right = b .right } ≡ next
-      unfolding stepBoth
-      to-left t m e =
-          ap (λ (t : SideScan). record { left = t; right = b .right }) e ∙ sym (pick-yes (mark row) _ _ m)
+        -- it closes
+        closing : T (closes now) → Stands target rs (raised seen (labelOf s r)) (rows + 1) (k .until) r found
+        closing y =
+            record {
+              counts = next-counts;
+              among = here;
+              hope = λ n. absurd (omega (arith, past, n));
+              same = λ n. absurd (omega (arith, past, n));
+              shut-at = λ _. crosses ∙ sym (ap cleared (shut s c rs (scored now c (labelOf s r) (valueOf s c r)) (unfold scored countRow in y))) ∙ leads;
+            }
+          where
+            past : k .until ≡ z .size + 1
+            past = until-is ∙ pick-true (closes now) (z .size + 1) (rows + 1 + skipAfter now) y
 
-      pub to-right : (t : SideScan) → mark row ≡ false → t ≡ rowStep s c row (b .right) → record { left = b .left; right = t } ≡ next
-      unfolding stepBoth
-      to-right t m e =
-          ap (λ (t : SideScan). record { left = b .left; right = t }) e ∙ sym (pick-no (mark row) _ _ m)
+            crosses : cleared (shown (raised seen (labelOf s r)) (rows + 1) (k .until) r found) ≡ cleared (scored now c (labelOf s r) (valueOf s c r))
+            crosses = unfold cleared scored countRow in ap (λ (b : Best). cleared (shown seen rows until last b)) found-is
 
--- ---- the row, as the code reads it
+        -- or stays open
+        opening : T (not (closes now)) → Stands target rs (raised seen (labelOf s r)) (rows + 1) (k .until) r found
+        opening n =
+            record {
+              counts = next-counts;
+              among = here;
+              hope = λ _. subst (λ (t : SideScan). Open s rs t) step (open-scored s c r rs now heard (h .hope is-open));
+              same = λ _. ap (λ (t : SideScan). cleared (through s c rs t)) (sym step) ∙ leads;
+              shut-at = λ y. absurd (omega (arith, short, fewer, room, y));
+            }
+          where
+            short : k .until ≡ rows + 1 + skipAfter now
+            short = until-is ∙ pick-false (closes now) (z .size + 1) (rows + 1 + skipAfter now) n
 
-pub moved : (s : Sheet) (c r : ℕ) (t : SideScan) (label : ℕ) (value : Float) (z : Standing) (seen : List ℕ) → label ≡ labelOf s r → value ≡ valueOf s c r
-    → Stepped t c label value z seen → whole z (t .own) seen ≡ rowStep s c r t
-moved s c r t label value z seen el ev a =
-    joined t c label value (standing t) z seen refl a ∙ ap (λ (l : ℕ). stepOf t c l value) el ∙ ap (λ (v : Float). stepOf t c (labelOf s r) v) ev
+            fewer : skipAfter now < z .size - rows
+            fewer = nleb→lt (rowsLeft now) (skipAfter now) (nor-right (eqb (rightBest now) (rowsLeft now)) (leb (rowsLeft now) (skipAfter now)) (unfold closes in n))
 
--- the end's test, as the code makes it
-pub over-is : (b : Two) (over x y : Bool) → over ≡ ((b .left .closed && b .right .closed) || (x && y)) → x ≡ leb (b .left .size - b .left .counted) (b .left .skip)
-    → y ≡ leb (b .right .size - b .right .counted) (b .right .skip) → over ≡ ended b
-unfolding ended idle
-over-is b over x y e p q = e ∙ ap (λ (x : Bool). (b .left .closed && b .right .closed) || (x && y)) p ∙ ap (λ (y : Bool). (b .left .closed && b .right .closed) || (idle (b .left) && y)) q
+            heard : T (not (quiet now (valueOf s c r)))
+            heard = subst (λ (b : Bool). T (not b)) (sym (quiet-is seen rows until last r best ∙ e)) tt
+
+            shuts-not : (b : Bool) → T (not b) → b ≡ false
+            shuts-not true t = absurd t
+            shuts-not false t = refl
+
+            made : scored now c (labelOf s r) (valueOf s c r) ≡ shown (raised seen (labelOf s r)) (rows + 1) (k .until) r (bestAfter now c (valueOf s c r))
+            made =
+                unfold scored in counted-is seen rows until last best (bestAfter now c (valueOf s c r)) (skipAfter now) (k .until) (labelOf s r) r (closes now) (shuts-not (closes now) n)
+                (omega (arith, short))
+
+            step : scored now c (labelOf s r) (valueOf s c r) ≡ shown (raised seen (labelOf s r)) (rows + 1) (k .until) r found
+            step = made ∙ ap (λ (b : Best). shown (raised seen (labelOf s r)) (rows + 1) (k .until) r b) (sym found-is)
+
+        pub scores : Stands target rs (raised seen (labelOf s r)) (rows + 1) (k .until) r found
+        scores = decide (closes now) closing opening
+
+  -- ---- the end
+
+  module _ (target : SideScan) (rest seen : List ℕ) (rows until last : ℕ) (best : Best) (h : Stands target rest seen rows until last best) where
+    shut-best : z .size < until → best ≡ target .best
+    shut-best k = unfold cleared in ap (λ (t : SideScan). t .best) (h .shut-at k)
+
+    -- no cut to come can be taken
+    pub ends : z .size ≤ until → best ≡ target .best
+    ends k = reach (z .size) until k (λ e. open-best (omega (arith, e))) shut-best
+      where
+        open-best : until ≤ z .size → best ≡ target .best
+        open-best n =
+            unfold cleared in ap (λ (t : SideScan). t .best)
+            (sym (frozen s c rest (shown seen rows until last best) (λ _. h .hope n) (omega (arith, k, h .counts .rows))) ∙ h .same n)
+
+  -- no row is left
+  pub finished : (target : SideScan) (seen : List ℕ) (rows until last : ℕ) (best : Best) → Stands target [] seen rows until last best → best ≡ target .best
+  unfolding through
+  finished target seen rows until last best h =
+      order until (z .size) (λ n. unfold cleared in ap (λ (t : SideScan). t .best) (h .same n)) (shut-best target [] seen rows until last best h)
+
+  -- what a cut asks
+  pub scorable : (target : SideScan) (r : ℕ) (rs seen : List ℕ) (rows until last : ℕ) (best : Best) → Stands target (r ∷ rs) seen rows until last best → z .size ≤ mostRows
+      → Scorable (z .own) seen (z .labels) rows (z .size)
+  scorable target r rs seen rows until last best h small =
+      let k = h .counts in
+      record {
+        countable = record { some = k .some; few = k .most; within = λ l n. omega (arith, k .sums l n) };
+        more = omega (arith, k .rows);
+        small = small;
+        seen = k .few;
+        left = λ l n. to-come (getD (z .own) l 0) (getD seen l 0) (tally (λ r. eqb (labelOf s r) l) (r ∷ rs)) (length (r ∷ rs)) rows (z .size)
+            (k .sums l n) (tally-le (λ r. eqb (labelOf s r) l) (r ∷ rs)) (k .rows);
+      }
+    where
+      to-come : (own seen rest all counted size : ℕ) → seen + rest ≡ own → rest ≤ all → counted + all ≡ size → own - seen ≤ size - counted
+      to-come own seen rest all counted size a b c = omega arith
+
+-- ---- the start
+
+pub starts : (s : Sheet) (c : ℕ) (own : List ℕ) (size labels least : ℕ) (best : Best) (target : SideScan) (rest : List ℕ) → Live s rest (atStart own size labels least best)
+    → cleared (through s c rest (atStart own size labels least best)) ≡ target → 1 ≤ s .rows → Stands s c (atStart own size labels least best) target rest noRows 0 0 0 best
+unfolding pick
+starts s c own size labels least best target rest live t some =
+    let h : Open s rest (atStart own size labels least best) = live tt in
+    record {
+      counts = h .fits;
+      among = some;
+      hope = λ _. h;
+      same = λ _. t;
+      shut-at = λ k. absurd (omega (arith, k));
+    }

@@ -1,27 +1,31 @@
--- The scan of the columns, one by one: what the loop keeps, that each column finds what it goes by, and what the loop has when it ends. Assumes nothing.
+-- The scan of the columns, one by one: what crosses from a column to the next, what the loop keeps, that each column finds what it goes by, and what the loop
+-- has when it ends. Assumes nothing.
 use Prim.Native.Nat.{ℕ, zero, suc, _+_, _-_, _*_, _≤_, _<_}
 use native.Mathlib.Omega.{arith}
 use native.Mathlib.Numerals.{add-one}
 use native.Mathlib.Nat.{suc-mul, mul-le-mul-right}
-use mathlib.Core.Path.{_≡_, sym, ap, subst, _∙_}
+use mathlib.Core.Path.{_≡_, refl, sym, ap, ap₂, subst, _∙_}
 use mathlib.Core.Bool.{Bool, true, false, _&&_}
-use mathlib.Core.List.{List}
+use mathlib.Core.List.{List, [], _∷_}
 use lib.ListN.{length, getD}
 use lib.Dec.{eqb}
+use lib.Ieee.{Float}
 use Rattle.basics.specs.Choice.{pick}
-use Rattle.basics.specs.Lists.{tally}
+use Rattle.basics.specs.Lists.{tally, those}
 use Rattle.basics.proofs.Choice.{by-test, bit-and}
 use Rattle.basics.proofs.Lists.{tally-le, tally-mono, getD-table, length-table}
 use Rattle.sheet.specs.Limits.{mostLabels}
 use Rattle.sheet.specs.Sheet.{Sheet, valueOf, labelOf, rowAt, everyRow}
 use Rattle.leaves_score.specs.declared.SideScan.{SideScan}
+use Rattle.leaves_score.specs.declared.Best.{Best}
+use Rattle.leaves_score.specs.declared.Bests.{Bests}
 use Rattle.leaves_score.specs.declared.Two.{Two}
-use Rattle.leaves_score.specs.Scan.{other, sizeOf, labelled, ownOf, cleared, rowStep, stepBoth, ended, scanRows, scanColumn, perfect, scanColumns, startBoth, scanned}
-use Rattle.leaves_score.specs.Kept.{Owns}
-use Rattle.leaves_score.specs.Step.{Sized}
-use Rattle.leaves_score.specs.Lists.{goLeft, ReadyColumn, Scannable}
-use Rattle.leaves_score.proofs.Live.{left-is, right-is, owns-step, owns-cleared, owns-start, rows-order, begin-live}
-use Rattle.leaves_score.proofs.Column.{pick-yes, pick-no}
+use Rattle.leaves_score.specs.Scan.{other, sizeOf, labelled, ownOf, cleared, countRow, onlyCounted, scored, stepOf, rowStep, stepBoth, ended, scanRows, scanColumn, perfect, scanColumns, leafLabel, leafScore, sideOf, startBoth, scanned}
+use Rattle.leaves_score.specs.Kept.{rowsFrom, through, Alike, BothAlike, Owns, Live}
+use Rattle.leaves_score.specs.Step.{atStart, Sized}
+use Rattle.leaves_score.specs.Lists.{goLeft, Numbered, bothAt, ReadyColumn, Found, Scannable}
+use Rattle.leaves_score.proofs.Live.{left-is, right-is, step-any, owns-step, owns-cleared, owns-start, rows-order, begin-live}
+use Rattle.leaves_score.proofs.Coupled.{both-rows as coupled-rows}
 
 -- ---- both sides keep their own numbers
 
@@ -96,78 +100,228 @@ module _ (s : Sheet) (support : ℕ) (mine : ℕ → Bool) (t : SideScan) (h : O
         );
       }
 
+-- ---- what crosses from a column to the next
+
+-- rows change nothing that crosses but the best
+crosses : (s : Sheet) (c : ℕ) (rs : List ℕ) (t : SideScan)
+    → cleared (through s c rs t) ≡ atStart (t .own) (t .size) (t .labels) (t .least) ((through s c rs t) .best)
+unfolding through cleared
+crosses s c [] t = refl
+crosses s c (r ∷ rs) t = crosses s c rs (rowStep s c r t) ∙ still t (labelOf s r) (valueOf s c r) (through s c rs (rowStep s c r t) .best)
+  where
+    still : (t : SideScan) (l : ℕ) (v : Float) (b : Best)
+        → atStart (stepOf t c l v .own) (stepOf t c l v .size) (stepOf t c l v .labels) (stepOf t c l v .least) b ≡ atStart (t .own) (t .size) (t .labels) (t .least) b
+    still t l v b =
+        step-any t (λ (u : SideScan). atStart (u .own) (u .size) (u .labels) (u .least) b ≡ atStart (t .own) (t .size) (t .labels) (t .least) b) c l v
+        refl (unfold onlyCounted countRow in refl) (unfold scored countRow in refl)
+
+-- the sides put by number start a column alike
+module _ (s : Sheet) (sides : List ℕ) (c : ℕ) (b : Two) (h : ReadyColumn s sides c b) where
+  abbrev pub leveled : Two
+  leveled =
+      bothAt (b .left .own ∷ b .right .own ∷ []) (b .left .size ∷ b .right .size ∷ []) (s .labels) (b .left .least) (b .left .best) (b .right .best)
+
+  left-level : cleared (b .left) ≡ leveled .left
+  left-level = unfold cleared in ap (λ (n : ℕ). atStart (b .left .own) (b .left .size) n (b .left .least) (b .left .best)) (h .left-labels)
+
+  right-level : cleared (b .right) ≡ leveled .right
+  right-level =
+      unfold cleared in ap (λ (n : ℕ). atStart (b .right .own) (b .right .size) n (b .right .least) (b .right .best)) (h .right-labels)
+      ∙ ap (λ (n : ℕ). atStart (b .right .own) (b .right .size) (s .labels) n (b .right .best)) (h .right-least)
+
+  pub ready-level : ReadyColumn s sides c leveled
+  unfolding cleared
+  ready-level =
+      record {
+        some = h .some;
+        few = h .few;
+        ordered = h .ordered;
+        valued = h .valued;
+        coded = h .coded;
+        numbered = h .numbered;
+        in-rows = h .in-rows;
+        labelled = h .labelled;
+        left-labels = refl;
+        right-labels = refl;
+        left-least = h .left-least;
+        right-least = refl;
+        left-small = h .left-small;
+        right-small = h .right-small;
+        left-live = subst (Live s (those (goLeft sides) (rowsFrom s c (s .rows) 0))) left-level (h .left-live);
+        right-live = subst (Live s (those (other (goLeft sides)) (rowsFrom s c (s .rows) 0))) right-level (h .right-live);
+      }
+
+  abbrev column : Two
+  column = scanColumn s (goLeft sides) c b
+
+  same-column : scanColumn s (goLeft sides) c leveled ≡ column
+  unfolding scanColumn
+  same-column = ap₂ (λ (l r : SideScan). scanRows s (goLeft sides) c (s .rows) 0 (record { left = l; right = r })) ((unfold cleared in sym left-level)) ((unfold cleared in sym right-level))
+
+  -- a side with its best replaced
+  abbrev pub given : SideScan → Best → SideScan
+  given t best =
+      record {
+        own = t .own;
+        size = t .size;
+        labels = t .labels;
+        least = t .least;
+        best = best;
+        seen = t .seen;
+        counted = t .counted;
+        skip = t .skip;
+        closed = t .closed;
+        started = t .started;
+        previous = t .previous;
+      }
+
+  -- what the rows found is what crosses
+  pub column-found : (r : Bests) → Found s sides c leveled r → BothAlike (record { left = given (b .left) (r .left); right = given (b .right) (r .right) }) column
+  unfolding scanColumn cleared
+  column-found r f =
+      let k = coupled-rows s (goLeft sides) c (s .rows) 0 (record { left = cleared (b .left); right = cleared (b .right) }) (h .left-live) (h .right-live) in
+      let mine = those (goLeft sides) (rowsFrom s c (s .rows) 0) in
+      let theirs = those (other (goLeft sides)) (rowsFrom s c (s .rows) 0) in
+      record {
+        left = ap (atStart (b .left .own) (b .left .size) (b .left .labels) (b .left .least))
+            (f .left ∙ ap (λ (z : Two). z .left .best) same-column ∙ ap (λ (t : SideScan). t .best) (k .0))
+            ∙ sym (k .0 ∙ crosses s c mine (cleared (b .left)));
+        right = ap (atStart (b .right .own) (b .right .size) (b .right .labels) (b .right .least))
+            (f .right ∙ ap (λ (z : Two). z .right .best) same-column ∙ ap (λ (t : SideScan). t .best) (k .1))
+            ∙ sym (k .1 ∙ crosses s c theirs (cleared (b .right)));
+      }
+
+-- ---- sides that cross alike
+
+alike-itself : (a : Two) → BothAlike a a
+alike-itself a = record { left = refl; right = refl }
+
+alike-trans : (a b d : Two) → BothAlike a b → BothAlike b d → BothAlike a d
+alike-trans a b d p q = record { left = p .left ∙ q .left; right = p .right ∙ q .right }
+
+columns-follow : (s : Sheet) (mark : ℕ → Bool) (n c : ℕ) (a b : Two) → BothAlike a b → BothAlike (scanColumns s mark n c a) (scanColumns s mark n c b)
+unfolding scanColumns
+columns-follow s mark zero c a b h = h
+columns-follow s mark (suc n) c a b h =
+    subst (λ (z : Two). BothAlike (pick (perfect (scanColumn s mark c a)) (scanColumn s mark c a) (scanColumns s mark n (suc c) (scanColumn s mark c a))) (pick (perfect z) z (scanColumns s mark n (suc c) z)))
+    same (alike-itself (pick (perfect (scanColumn s mark c a)) (scanColumn s mark c a) (scanColumns s mark n (suc c) (scanColumn s mark c a))))
+  where
+    same : scanColumn s mark c a ≡ scanColumn s mark c b
+    same = unfold scanColumn in ap₂ (λ (l r : SideScan). scanRows s mark c (s .rows) 0 (record { left = l; right = r })) (h .left) (h .right)
+
+perfect-alike : (a b : Two) → BothAlike a b → perfect a ≡ perfect b
+unfolding perfect cleared
+perfect-alike a b h =
+    ap₂ (λ (l r : SideScan). eqb (l .best .score) (l .size) && eqb (r .best .score) (r .size)) (h .left) (h .right)
+
+pub side-alike : (a b : SideScan) → Alike a b → sideOf a ≡ sideOf b
+unfolding sideOf cleared leafLabel leafScore
+side-alike a b e = ap sideOf e
+
+pub owns-alike : (s : Sheet) (support : ℕ) (mine : ℕ → Bool) (a b : SideScan) → Alike a b → Owns s support mine b → Owns s support mine a
+unfolding cleared
+owns-alike s support mine a b e o = subst (Owns s support mine) (sym e) o
+
+pub both-alike : (s : Sheet) (support : ℕ) (mark : ℕ → Bool) (a b : Two) → BothAlike a b → Both s support mark b → Both s support mark a
+both-alike s support mark a b h o =
+    record {
+      left = owns-alike s support mark (a .left) (b .left) (h .left) (o .left);
+      right = owns-alike s support (other mark) (a .right) (b .right) (h .right) (o .right);
+    }
+
 -- ---- the loop
 
 place-in : (c columns rows n : ℕ) → c < columns → columns * rows ≤ n → c * rows + rows ≤ n
 place-in c columns rows n h k = omega (arith, suc-mul c rows, mul-le-mul-right {m = suc c} {n = columns} rows h)
 
-module _ (s : Sheet) (support : ℕ) (marks : List ℕ) where
-  abbrev mark : ℕ → Bool
-  mark = goLeft marks
-
+module _ (s : Sheet) (support : ℕ) (mark : ℕ → Bool) where
   pub record Scanning (c : ℕ) (b : Two) : Type 0 where
     pub within : c ≤ s .columns
-    pub same : scanColumns s mark (s .columns - c) c b ≡ scanned s support mark
+    pub same : BothAlike (scanColumns s mark (s .columns - c) c b) (scanned s support mark)
     pub both : Both s support mark b
 
   pub begins : (b : Two) → b ≡ startBoth s support mark → Scanning 0 b
-  unfolding scanned
   begins b e =
       record {
         within = omega arith;
-        same = ap (λ (n : ℕ). scanColumns s mark n 0 b) (whole (s .columns)) ∙ ap (λ (b : Two). scanColumns s mark (s .columns) 0 b) e;
+        same = subst (BothAlike (scanColumns s mark (s .columns - 0) 0 b)) all (alike-itself (scanColumns s mark (s .columns - 0) 0 b));
         both = subst (Both s support mark) (sym e) (both-start s support mark);
       }
     where
-      whole : (n : ℕ) → n - 0 ≡ n
-      whole n = omega arith
+      none : s .columns - 0 ≡ s .columns
+      none = omega arith
+
+      all : scanColumns s mark (s .columns - 0) 0 b ≡ scanned s support mark
+      all = unfold scanned in ap₂ (λ (n : ℕ) (b : Two). scanColumns s mark n 0 b) none e
 
   module _ (c : ℕ) (b : Two) (g : Scanning c b) where
-    pub finished : s .columns ≤ c → b ≡ scanned s support mark
-    unfolding scanColumns
+    pub finished : s .columns ≤ c → BothAlike b (scanned s support mark)
     finished h =
         let e : s .columns - c ≡ 0 = omega arith in
-        ap (λ (n : ℕ). scanColumns s mark n c b) (sym e) ∙ g .same
+        subst (λ (z : Two). BothAlike z (scanned s support mark)) (ap (λ (n : ℕ). scanColumns s mark n c b) e ∙ nothing) (g .same)
+      where
+        nothing : scanColumns s mark 0 c b ≡ b
+        nothing = unfold scanColumns in refl
 
-    module _ (h : c < s .columns) where
+    module _ (h : c < s .columns) (found : Two) (a : BothAlike found (scanColumn s mark c b)) where
       abbrev next : Two
       next = scanColumn s mark c b
 
-      one-more : s .columns - c ≡ suc (s .columns - (c + 1))
-      one-more = omega arith
+      abbrev rest : Two
+      rest = scanColumns s mark (s .columns - (c + 1)) (c + 1) next
 
-      unrolled : scanColumns s mark (suc (s .columns - (c + 1))) c b ≡ pick (perfect next) next (scanColumns s mark (s .columns - (c + 1)) (c + 1) next)
-      unfolding scanColumns
-      unrolled = rw add-one
+      turn : BothAlike (pick (perfect next) next rest) (scanned s support mark)
+      turn =
+          let e : s .columns - c ≡ suc (s .columns - (c + 1)) = omega arith in
+          subst (λ (z : Two). BothAlike z (scanned s support mark)) (ap (λ (n : ℕ). scanColumns s mark n c b) e ∙ unrolled) (g .same)
+        where
+          unrolled : scanColumns s mark (suc (s .columns - (c + 1))) c b ≡ pick (perfect next) next rest
+          unrolled = unfold scanColumns in rw add-one
 
-      turn : pick (perfect next) next (scanColumns s mark (s .columns - (c + 1)) (c + 1) next) ≡ scanned s support mark
-      turn = sym unrolled ∙ ap (λ (n : ℕ). scanColumns s mark n c b) (sym one-more) ∙ g .same
+      picked : (k : Bool) → perfect found ≡ k → BothAlike (pick k next rest) (scanned s support mark)
+      picked k e = subst (λ (q : Bool). BothAlike (pick q next rest) (scanned s support mark)) (sym (perfect-alike found next a) ∙ e) turn
 
-      pub stops : perfect next ≡ true → next ≡ scanned s support mark
-      stops e = sym (pick-yes (perfect next) next _ e) ∙ turn
+      pub stops : perfect found ≡ true → BothAlike found (scanned s support mark)
+      unfolding pick
+      stops e = alike-trans found next (scanned s support mark) a (picked true e)
 
-      pub goes-on : perfect next ≡ false → Scanning (c + 1) next
+      pub goes-on : perfect found ≡ false → Scanning (c + 1) found
+      unfolding pick
       goes-on e =
           record {
             within = omega arith;
-            same = sym (pick-no (perfect next) next (scanColumns s mark (s .columns - (c + 1)) (c + 1) next) e) ∙ turn;
-            both = both-column s support mark c b (g .both);
+            same = alike-trans (scanColumns s mark (s .columns - (c + 1)) (c + 1) found) rest (scanned s support mark)
+                (columns-follow s mark (s .columns - (c + 1)) (c + 1) found next a) (picked false e);
+            both = both-alike s support mark found next a (both-column s support mark c b (g .both));
           }
 
-      -- the column finds what it goes by
-      pub ready-column : Scannable s marks → ReadyColumn s marks c b
-      ready-column k =
-          record {
-            few = k .limited .rows-most;
-            ordered = place-in c (s .columns) (s .rows) (length (s .order)) h (k .lent .ordered);
-            valued = place-in c (s .columns) (s .rows) (length (s .values)) h (k .lent .valued);
-            coded = k .lent .coded;
-            marked = k .lent .marked;
-            in-rows = k .in-rows c h;
-            left-labels = λ r d. rw (g .both .left .labels-is) (k .labelled r d);
-            right-labels = λ r d. rw (g .both .right .labels-is) (k .labelled r d);
-            left-small = omega (arith, size-in s support mark (b .left) (g .both .left), k .limited .rows-most);
-            right-small = omega (arith, size-in s support (other mark) (b .right) (g .both .right), k .limited .rows-most);
-            left-live = rw (rows-order s c) (begin-live s (k .limited) support mark (b .left) (g .both .left) c (k .each-once c h));
-            right-live = rw (rows-order s c) (begin-live s (k .limited) support (other mark) (b .right) (g .both .right) c (k .each-once c h));
-          }
+-- the column finds what it goes by
+module _ (s : Sheet) (support : ℕ) (marks sides : List ℕ) (k : Scannable s marks) (n : Numbered (s .rows) marks sides) where
+  pub ready-column : (c : ℕ) (b : Two) → c < s .columns → Both s support (goLeft sides) b → ReadyColumn s sides c b
+  ready-column c b h o =
+      record {
+        some = k .limited .rows-some;
+        few = k .limited .rows-most;
+        ordered = place-in c (s .columns) (s .rows) (length (s .order)) h (k .lent .ordered);
+        valued = place-in c (s .columns) (s .rows) (length (s .values)) h (k .lent .valued);
+        coded = k .lent .coded;
+        numbered = λ r d. rw (n r d) (by-test (λ m. m < 2) (goLeft marks r) (λ _. omega arith) (λ _. omega arith));
+        in-rows = k .in-rows c h;
+        labelled = k .labelled;
+        left-labels = o .left .labels-is;
+        right-labels = o .right .labels-is;
+        left-least = omega (arith, o .left .least-is);
+        right-least = o .right .least-is ∙ sym (o .left .least-is);
+        left-small = omega (arith, size-in s support (goLeft sides) (b .left) (o .left), k .limited .rows-most);
+        right-small = omega (arith, size-in s support (other (goLeft sides)) (b .right) (o .right), k .limited .rows-most);
+        left-live = rw (rows-order s c) (begin-live s (k .limited) support (goLeft sides) (b .left) (o .left) c (k .each-once c h));
+        right-live = rw (rows-order s c) (begin-live s (k .limited) support (other (goLeft sides)) (b .right) (o .right) c (k .each-once c h));
+      }
+
+  -- numbers and marks send the same rows left
+  pub same-side : (r : ℕ) → r < s .rows → goLeft sides r ≡ goLeft marks r
+  same-side r h = ap (λ (x : ℕ). eqb x 0) (n r h) ∙ zeroth (goLeft marks r)
+    where
+      zeroth : (m : Bool) → eqb (pick m 0 1) 0 ≡ m
+      zeroth true = unfold pick in refl
+      zeroth false = unfold pick in refl

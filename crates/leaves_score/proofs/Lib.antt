@@ -5,9 +5,12 @@ pub mod Recorded
 pub mod Running
 pub mod Judged
 pub mod Steps
-pub mod Kept
+pub mod Single
+pub mod Coupled
 pub mod Column
+pub mod Abreast
 pub mod Rows
 pub mod Leaf
 pub mod Columns
+pub mod Marks
 pub mod Accepted

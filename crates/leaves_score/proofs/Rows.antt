@@ -1,21 +1,28 @@
 -- Counting the rows of a side one by one: each row adds one to the count of its label and to the side's size, if it is the side's. Assumes nothing.
-use Prim.Native.Nat.{ℕ, zero, suc, _+_, _≤_, _<_}
+use Prim.Native.Nat.{ℕ, zero, suc, _+_, _-_, _≤_, _<_}
 use native.Mathlib.Omega.{arith}
 use native.Mathlib.Numerals.{add-one}
 use mathlib.Core.Path.{_≡_, refl, sym, ap, _∙_}
-use mathlib.Core.Bool.{Bool, true, false, _&&_}
-use mathlib.Core.List.{List}
-use lib.ListN.{length, getD, length-replicate}
-use lib.Seq.{ext-getD}
+use mathlib.Core.Bool.{Bool, true, false, not, _&&_}
+use mathlib.Core.List.{List, []}
+use lib.ListN.{length, getD, set, length-set, length-replicate}
+use lib.Seq.{ext-getD, getD-set-same, getD-set-other}
 use lib.Dec.{eqb}
-use Rattle.basics.specs.Choice.{bit}
+use Rattle.basics.specs.Choice.{pick, bit}
 use Rattle.basics.specs.Lists.{tally, table}
+use Rattle.basics.proofs.Choice.{reach}
 use Rattle.basics.proofs.Lists.{tally-le, getD-table, length-table}
 use Rattle.sheet.specs.Limits.{mostLabels}
 use Rattle.sheet.specs.Sheet.{labelOf}
-use Rattle.leaves_score.specs.Scan.{noRows, sizeOf, labelled, ownOf, raised}
-use Rattle.leaves_score.specs.Lists.{rowsOnly}
+use Rattle.leaves_score.specs.Scan.{other, noRows, sizeOf, labelled, ownOf, raised}
+use Rattle.leaves_score.specs.Lists.{goLeft, sideNumber, Numbered, rowsOnly}
 use Rattle.leaves_score.proofs.Counts.{raised-at, raised-long, none-at}
+
+-- what holds of both sides' numbers
+pub by-two {ℓ} : (P : ℕ → Type ℓ) (k : ℕ) → k < 2 → P 0 → P 1 → P k
+by-two P zero h p q = p
+by-two P (suc zero) h p q = q
+by-two P (suc (suc k)) h p q = absurd (omega arith)
 
 -- one row more, at the end
 tally-last : (p : ℕ → Bool) (f : ℕ → ℕ) (n : ℕ) → tally p (table f (suc n)) ≡ tally p (table f n) + bit (p (f n))
@@ -93,3 +100,104 @@ module _ (codes : List ℕ) (mine : ℕ → Bool) where
     pub size-is : size ≡ sizeOf (rowsOnly n codes) mine
     unfolding sizeOf
     size-is = t .all
+
+-- ---- both sides, their counts by number
+
+pub record Parting (codes marks : List ℕ) (rows row : ℕ) (sides : List ℕ) (counts : List (List ℕ)) (rest : ℕ) : Type 0 where
+  pub within : row ≤ rows
+  pub long : rows ≤ length sides
+  pub two : length counts ≡ 2
+  pub left : Tallied codes (goLeft marks) row (getD counts 0 []) (row - rest)
+  pub right : Tallied codes (other (goLeft marks)) row (getD counts 1 []) rest
+  pub numbers : Numbered row marks sides
+
+module _ (codes marks : List ℕ) (rows row : ℕ) (sides : List ℕ) (counts : List (List ℕ)) (rest : ℕ) (h : Parting codes marks rows row sides counts rest) where
+  -- a label of either side counts no more rows than were met
+  pub met : (side label : ℕ) → side < 2 → label < mostLabels → getD (getD counts side []) label 0 ≤ row
+  met side label s l =
+      by-two (λ k. getD (getD counts k []) label 0 ≤ row) side s
+      (count-low codes (goLeft marks) row (getD counts 0 []) (row - rest) (h .left) label l)
+      (count-low codes (other (goLeft marks)) row (getD counts 1 []) rest (h .right) label l)
+
+  pub right-few : rest ≤ row
+  right-few = size-low codes (other (goLeft marks)) row (getD counts 1 []) rest (h .right)
+
+  module _ (more : row < rows) (label side : ℕ) (el : label ≡ getD codes row 0) (es : side ≡ sideNumber marks row) where
+    abbrev counted : List (List ℕ)
+    counted = set counts side (raised (getD counts side []) label)
+
+    numbered : Numbered (row + 1) marks (set sides row side)
+    numbered r k =
+        reach r row (omega arith)
+        (λ e. rw (e, getD-set-same sides row side 0 (omega (arith, h .long))) es)
+        (λ l. rw (getD-set-other sides row r side 0 (λ e. absurd (omega (arith, e)))) (h .numbers r l))
+
+    set-long : rows ≤ length (set sides row side)
+    set-long = rw (length-set sides row side) (h .long)
+
+    set-two : length counted ≡ 2
+    set-two = length-set counts side (raised (getD counts side []) label) ∙ h .two
+
+    -- the side's own counts are raised, the other's stay
+    raised-own : (k : ℕ) → side ≡ k → k < 2 → getD counted k [] ≡ raised (getD counts k []) label
+    raised-own k e l =
+        ap (λ (n : ℕ). getD (set counts n (raised (getD counts n []) label)) k []) e ∙ getD-set-same counts k (raised (getD counts k []) label) [] (omega (arith, h .two))
+
+    kept-other : (k : ℕ) → (k ≡ side → ⊥) → getD counted k [] ≡ getD counts k []
+    kept-other k n = getD-set-other counts side k (raised (getD counts side []) label) [] n
+
+    to-left : goLeft marks row ≡ true → Parting codes marks rows (row + 1) (set sides row side) counted (rest + side)
+    to-left m =
+        record {
+          within = omega arith;
+          long = set-long;
+          two = set-two;
+          left =
+              rw (raised-own 0 zeroth (omega arith), more-left)
+              (one-more codes (goLeft marks) row (getD counts 0 []) (row - rest) label m el (h .left));
+          right =
+              rw (kept-other 1 (λ e. absurd (omega (arith, e, zeroth))), same-right)
+              (none-more codes (other (goLeft marks)) row (getD counts 1 []) rest (ap not m) (h .right));
+          numbers = numbered;
+        }
+      where
+        zeroth : side ≡ 0
+        zeroth = unfold pick in es ∙ ap (λ (b : Bool). pick b 0 1) m
+
+        more-left : row + 1 - (rest + side) ≡ row - rest + 1
+        more-left = omega (arith, zeroth, right-few)
+
+        same-right : rest + side ≡ rest
+        same-right = omega (arith, zeroth)
+
+    to-right : goLeft marks row ≡ false → Parting codes marks rows (row + 1) (set sides row side) counted (rest + side)
+    to-right m =
+        record {
+          within = omega arith;
+          long = set-long;
+          two = set-two;
+          left =
+              rw (kept-other 0 (λ e. absurd (omega (arith, e, first))), same-left)
+              (none-more codes (goLeft marks) row (getD counts 0 []) (row - rest) m (h .left));
+          right =
+              rw (raised-own 1 first (omega arith), more-right)
+              (one-more codes (other (goLeft marks)) row (getD counts 1 []) rest label (ap not m) el (h .right));
+          numbers = numbered;
+        }
+      where
+        first : side ≡ 1
+        first = unfold pick in es ∙ ap (λ (b : Bool). pick b 0 1) m
+
+        same-left : row + 1 - (rest + side) ≡ row - rest
+        same-left = omega (arith, first, right-few)
+
+        more-right : rest + side ≡ rest + 1
+        more-right = omega (arith, first)
+
+    pub parts-on : Parting codes marks rows (row + 1) (set sides row side) counted (rest + side)
+    parts-on = by-bool (goLeft marks row) to-left to-right
+      where
+        by-bool : (b : Bool) → (b ≡ true → Parting codes marks rows (row + 1) (set sides row side) counted (rest + side))
+            → (b ≡ false → Parting codes marks rows (row + 1) (set sides row side) counted (rest + side)) → Parting codes marks rows (row + 1) (set sides row side) counted (rest + side)
+        by-bool true f g = f refl
+        by-bool false f g = g refl

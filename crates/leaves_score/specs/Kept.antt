@@ -9,12 +9,26 @@ use Rattle.basics.specs.Lists.{tally}
 use Rattle.sheet.specs.Limits.{mostLabels}
 use Rattle.sheet.specs.Sheet.{Sheet, labelOf, rowAt, leastRows}
 use Rattle.leaves_score.specs.declared.SideScan.{SideScan}
-use Rattle.leaves_score.specs.Scan.{sizeOf, ownOf, totalOf}
+use Rattle.leaves_score.specs.declared.Two.{Two}
+use Rattle.leaves_score.specs.Scan.{sizeOf, ownOf, cleared, totalOf, rowStep}
 
 -- the rows at the n places from i on
 unfoldable pub rowsFrom : Sheet → ℕ → ℕ → ℕ → List ℕ
 rowsFrom s c zero i = []
 rowsFrom s c (suc n) i = rowAt s c i ∷ rowsFrom s c n (suc i)
+
+-- one side by itself: the rows of a list, one after another
+unfoldable pub through : Sheet → ℕ → List ℕ → SideScan → SideScan
+through s c [] t = t
+through s c (r ∷ rs) t = through s c rs (rowStep s c r t)
+
+-- what crosses from a column to the next is the same: all but the counts, skip, closed mark and previous value
+abbrev pub Alike : SideScan → SideScan → Type 0
+Alike a b = cleared a ≡ cleared b
+
+pub record BothAlike (a b : Two) : Type 0 where
+  pub left : Alike (a .left) (b .left)
+  pub right : Alike (a .right) (b .right)
 
 -- a side's own numbers are those of its rows
 pub record OwnNumbers (s : Sheet) (support : ℕ) (mine : ℕ → Bool) (own : List ℕ) (size labels least : ℕ) : Type 0 where

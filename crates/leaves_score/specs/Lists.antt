@@ -6,15 +6,19 @@ use mathlib.Core.List.{List, []}
 use lib.ListN.{length, getD}
 use lib.Dec.{eqb}
 use lib.Ieee.{Float}
+use Rattle.basics.specs.Choice.{pick}
 use Rattle.basics.specs.Lists.{tally, those}
 use Rattle.sheet.specs.Limits.{mostLabels, mostRows}
 use Rattle.sheet.specs.Sheet.{Sheet, labelOf, rowAt, everyRow, orderOf}
 use Rattle.sheet.specs.Sound.{Limited}
 use Rattle.sheet.specs.declared.Size.{Size}
 use Rattle.leaves_score.specs.declared.Parted.{Parted}
+use Rattle.leaves_score.specs.declared.Best.{Best}
+use Rattle.leaves_score.specs.declared.Bests.{Bests}
 use Rattle.leaves_score.specs.declared.Two.{Two}
-use Rattle.leaves_score.specs.Scan.{other, sizeOf, ownOf, cleared}
+use Rattle.leaves_score.specs.Scan.{other, sizeOf, ownOf, cleared, scanColumn}
 use Rattle.leaves_score.specs.Kept.{rowsFrom, Live}
+use Rattle.leaves_score.specs.Step.{atStart}
 
 -- the sheet that a scan reads: cuts are no part of it
 abbrev pub sheetOf : Size → List Float → List ℕ → List ℕ → Sheet
@@ -68,18 +72,40 @@ pub record ReadyRows (rows : ℕ) (codes marks : List ℕ) : Type 0 where
   pub marked : rows ≤ length marks
   pub labelled : (r : ℕ) → r < rows → getD codes r 0 < mostLabels
 
+-- ---- the rows' sides as numbers: the left one is 0, the right one 1
+
+abbrev pub sideNumber : List ℕ → ℕ → ℕ
+sideNumber marks r = pick (goLeft marks r) 0 1
+
+abbrev pub Numbered : ℕ → List ℕ → List ℕ → Type 0
+Numbered n marks sides = (r : ℕ) → r < n → getD sides r 0 ≡ sideNumber marks r
+
+-- the two sides at a column's start, their counts and sizes by number
+abbrev pub bothAt : List (List ℕ) → List ℕ → ℕ → ℕ → Best → Best → Two
+bothAt own sizes labels least first second =
+    record { left = atStart (getD own 0 []) (getD sizes 0 0) labels least first; right = atStart (getD own 1 []) (getD sizes 1 0) labels least second }
+
 -- What the scan of a column goes by: the lists are long enough, the order's entries are rows, the rows' codes are labels, and the rows to come add up to
 -- each side's own.
-pub record ReadyColumn (s : Sheet) (marks : List ℕ) (c : ℕ) (b : Two) : Type 0 where
+pub record ReadyColumn (s : Sheet) (sides : List ℕ) (c : ℕ) (b : Two) : Type 0 where
+  pub some : 1 ≤ s .rows
   pub few : s .rows ≤ mostRows
   pub ordered : c * s .rows + s .rows ≤ length (s .order)
   pub valued : c * s .rows + s .rows ≤ length (s .values)
   pub coded : s .rows ≤ length (s .codes)
-  pub marked : s .rows ≤ length marks
+  pub numbered : (r : ℕ) → r < s .rows → getD sides r 0 < 2
   pub in-rows : (i : ℕ) → i < s .rows → rowAt s c i < s .rows
-  pub left-labels : (r : ℕ) → r < s .rows → labelOf s r < b .left .labels
-  pub right-labels : (r : ℕ) → r < s .rows → labelOf s r < b .right .labels
+  pub labelled : (r : ℕ) → r < s .rows → labelOf s r < s .labels
+  pub left-labels : b .left .labels ≡ s .labels
+  pub right-labels : b .right .labels ≡ s .labels
+  pub left-least : 1 ≤ b .left .least
+  pub right-least : b .right .least ≡ b .left .least
   pub left-small : b .left .size ≤ mostRows
   pub right-small : b .right .size ≤ mostRows
-  pub left-live : Live s (those (goLeft marks) (rowsFrom s c (s .rows) 0)) (cleared (b .left))
-  pub right-live : Live s (those (other (goLeft marks)) (rowsFrom s c (s .rows) 0)) (cleared (b .right))
+  pub left-live : Live s (those (goLeft sides) (rowsFrom s c (s .rows) 0)) (cleared (b .left))
+  pub right-live : Live s (those (other (goLeft sides)) (rowsFrom s c (s .rows) 0)) (cleared (b .right))
+
+-- what the rows of a column leave: the best of each side
+pub record Found (s : Sheet) (sides : List ℕ) (c : ℕ) (b : Two) (r : Bests) : Type 0 where
+  pub left : r .left ≡ (scanColumn s (goLeft sides) c b) .left .best
+  pub right : r .right ≡ (scanColumn s (goLeft sides) c b) .right .best

@@ -1,12 +1,11 @@
 -- What the code's row step is made of, by numbers: the best counts about a cut, what the cut comes to, the split that it makes; and what a record
 -- must have for a row to be taken. `Scan.antt` says the same over the record. Definitions only.
-use mathlib.Core.Path.{_≡_}
 use Prim.Native.Nat.{ℕ, _+_, _-_, _≤_, _<_}
-use mathlib.Core.Bool.{false, _&&_, _||_}
+use mathlib.Core.Bool.{Bool, false, _&&_, _||_}
 use mathlib.Core.List.{List}
 use lib.ListN.{getD}
 use lib.Dec.{leb, ltb, eqb}
-use lib.Ieee.{Float}
+use lib.Ieee.{Float, nan, eq}
 use Rattle.basics.specs.Choice.{pick}
 use Rattle.threshold.specs.Threshold.{thresholdOf}
 use Rattle.sheet.specs.Limits.{mostLabels, mostRows}
@@ -14,10 +13,10 @@ use Rattle.leaves_score.specs.declared.Best.{Best}
 use Rattle.leaves_score.specs.declared.Peaks.{Peaks}
 use Rattle.leaves_score.specs.declared.Peak.{Peak}
 use Rattle.leaves_score.specs.declared.Verdict.{Verdict}
+use Rattle.leaves_score.specs.declared.Cut.{Cut}
 use Rattle.leaves_score.specs.declared.SideScan.{SideScan}
-use Rattle.leaves_score.specs.declared.Standing.{Standing}
 use Rattle.leaves_score.specs.Commonest.{commonest, mostOf}
-use Rattle.leaves_score.specs.Scan.{nought, noRows, leafBest, before, later, rowsLeft, stepOf}
+use Rattle.leaves_score.specs.Scan.{nought, noRows, leafBest, before, later, rowsLeft}
 
 -- rows of label l counted so far, and those from here on
 abbrev pub counted : List ℕ → ℕ → ℕ
@@ -50,20 +49,18 @@ pub record Countable (own seen : List ℕ) (labels : ℕ) : Type 0 where
   pub few : labels ≤ mostLabels
   pub within : (l : ℕ) → l < labels → getD seen l 0 ≤ getD own l 0
 
--- the split of a taken cut, or what was best before
-unfoldable pub settled : Best → Verdict → Peaks → ℕ → ℕ → ℕ → Float → Float → Best
-settled best verdict p counted rest column previous value =
-    pick (verdict .taken)
-    (record {
-      score = verdict .total;
+-- the split of a cut
+unfoldable pub splitBy : Peaks → ℕ → ℕ → ℕ → Float → Float → Best
+splitBy p counted rest column previous value =
+    record {
+      score = p .before + p .after;
       column = column;
       threshold = thresholdOf previous value;
       left = p .left;
       right = p .right;
       lost = counted - p .before;
       missed = rest - p .after;
-    })
-    best
+    }
 
 -- a side that can take one more row, of that label
 pub record Ready (t : SideScan) (label : ℕ) : Type 0 where
@@ -77,57 +74,45 @@ pub record Ready (t : SideScan) (label : ℕ) : Type 0 where
   pub seen : (l : ℕ) → l < t .labels → before t l ≤ t .counted
   pub left : (l : ℕ) → l < t .labels → later t l ≤ rowsLeft t
 
--- ---- the record in two parts: its counts, and the rest
+-- ---- the same with no skip: the count up to which a side's rows are skipped stands for it, and the row of the previous value for that value
 
-abbrev pub whole : Standing → List ℕ → List ℕ → SideScan
-whole z own seen =
-    record {
-      own = own;
-      size = z .size;
-      labels = z .labels;
-      least = z .least;
-      best = z .best;
-      seen = seen;
-      counted = z .counted;
-      skip = z .skip;
-      closed = z .closed;
-      started = z .started;
-      previous = z .previous;
-    }
+-- the row is only counted
+unfoldable pub passed : List Float → ℕ → ℕ → ℕ → ℕ → ℕ → Bool
+passed values base row last counted until = ltb (counted + 1) until || (ltb 0 counted && eq (getD values (base + last) nan) (getD values (base + row) nan))
 
-abbrev pub standing : SideScan → Standing
-standing t =
-    record {
-      size = t .size;
-      labels = t .labels;
-      least = t .least;
-      best = t .best;
-      counted = t .counted;
-      skip = t .skip;
-      closed = t .closed;
-      started = t .started;
-      previous = t .previous;
-    }
+-- that count after a cut; a closed side skips all of its rows
+unfoldable pub untilAfter : Verdict → ℕ → ℕ → ℕ
+untilAfter v next size = pick (v .closed) (size + 1) (next + v .skip)
 
--- what a row leaves of each part
-pub record Stepped (t : SideScan) (column label : ℕ) (value : Float) (z : Standing) (seen : List ℕ) : Type 0 where
-  pub rest : z ≡ standing (stepOf t column label value)
-  pub counts : seen ≡ stepOf t column label value .seen
+-- a cut that is scored, skip having fallen to 0
+unfoldable pub cutOf : List ℕ → List ℕ → ℕ → ℕ → ℕ → ℕ → ℕ → Cut
+cutOf own seen labels counted size least score =
+    let p : Peaks = peaksOf own seen labels in
+    let v : Verdict = verdictOf p counted (size - counted) least score 0 in
+    record { peaks = p; taken = v .taken; until = untilAfter v (counted + 1) size }
+
+-- a side that has a row to come, and whose counts are within its numbers
+pub record Scorable (own counts : List ℕ) (labels counted size : ℕ) : Type 0 where
+  pub countable : Countable own counts labels
+  pub more : counted < size
+  pub small : size ≤ mostRows
+  pub seen : (l : ℕ) → l < labels → getD counts l 0 ≤ counted
+  pub left : (l : ℕ) → l < labels → coming own counts l ≤ size - counted
 
 -- ---- a side's leaf, at its start and at its end
 
 unfoldable pub peakOf : List ℕ → ℕ → Peak
 peakOf own labels = record { label = commonest (counted own) labels; count = mostOf (counted own) labels }
 
--- a leaf of those rows, before the first column
-unfoldable pub leafScan : List ℕ → ℕ → ℕ → ℕ → SideScan
-leafScan own size labels least =
+-- a side of those rows at a column's start
+abbrev pub atStart : List ℕ → ℕ → ℕ → ℕ → Best → SideScan
+atStart own size labels least best =
     record {
       own = own;
       size = size;
       labels = labels;
       least = least;
-      best = leafBest (mostOf (counted own) labels);
+      best = best;
       seen = noRows;
       counted = 0;
       skip = 0;
@@ -135,6 +120,10 @@ leafScan own size labels least =
       started = false;
       previous = nought;
     }
+
+-- a leaf of those rows, before the first column
+unfoldable pub leafScan : List ℕ → ℕ → ℕ → ℕ → SideScan
+leafScan own size labels least = atStart own size labels least (leafBest (mostOf (counted own) labels))
 
 -- a side whose labels' counts are within its size
 pub record Sized (t : SideScan) : Type 0 where

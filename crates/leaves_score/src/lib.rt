@@ -1,18 +1,25 @@
 // The scan of the two sides of a root split: the best single question for each side, in one pass over each column.
 ghost use mathlib.Core.Path.{_≡_};
 ghost use mathlib.Core.Bool.{false, _&&_, _||_};
-ghost use Prim.Native.Nat.{_+_, _-_, _≤_};
+ghost use Prim.Native.Nat.{_+_, _-_, _≤_, _<_};
 ghost use lib.Dec.{leb, ltb, eqb};
 ghost use lib.IntN.{pos};
-ghost use lib.Ieee.{eq};
+ghost use lib.Ieee.{nan, eq};
+ghost use lib.ListN.{length, getD};
+ghost use Rattle.basics.specs.Choice.{pick};
 ghost use Rattle.sheet.specs.Limits.{mostLabels, mostRows};
 ghost use Rattle.sheet.specs.Sheet.{leastRows};
-ghost use Rattle.leaves_score.specs.Scan.{fallen, stepOf, cleared, scanColumn, perfect, scanned, sideOf, sidesOf};
-ghost use Rattle.leaves_score.specs.Step.{Countable, peaksOf, verdictOf, settled, Ready, whole, standing, Stepped, peakOf, leafScan, Sized};
-ghost use Rattle.leaves_score.specs.Lists.{sheetOf, goLeft, ReadyColumn, ReadyRows, partedOf, Scannable};
+ghost use Rattle.leaves_score.specs.Scan.{fallen, stepOf, scanColumn, perfect, scanned, sideOf, sidesOf};
+ghost use Rattle.leaves_score.specs.Kept.{BothAlike};
+ghost use Rattle.leaves_score.specs.Step.{Countable, peaksOf, verdictOf, splitBy, Ready, passed, untilAfter, Scorable, cutOf, peakOf, leafScan, Sized};
+ghost use Rattle.leaves_score.specs.Lists.{sheetOf, goLeft, Numbered, bothAt, ReadyColumn, Found, ReadyRows, partedOf, Scannable};
 use sheet::MOST_LABELS;
+use sheet::MOST_ROWS;
 use sheet::Size;
 use tree::Side;
+
+// The left side is number 0, the right side number 1.
+const SIDES: usize = 2;
 
 // The two sides of a root split.
 pub struct Sides {
@@ -54,25 +61,18 @@ pub struct Two {
     pub right: SideScan,
 }
 
-// A scan record without its two lists of counts: what a row takes and gives back by value.
-pub struct Standing {
-    pub size: u32,
-    pub labels: usize,
-    pub least: u32,
-    pub best: Best,
-    pub counted: u32,
-    pub skip: u32,
-    pub closed: bool,
-    pub started: bool,
-    pub previous: f64,
-}
-
 // The best counts of the labels before a cut and from it on, and the labels that have them.
 pub struct Peaks {
     pub before: u32,
     pub left: usize,
     pub after: u32,
     pub right: usize,
+}
+
+// The best of each side.
+pub struct Bests {
+    pub left: Best,
+    pub right: Best,
 }
 
 // A label, and how many rows it has.
@@ -95,6 +95,13 @@ pub struct Verdict {
     pub total: u32,
     pub skip: u32,
     pub closed: bool,
+}
+
+// A scored cut: the best counts about it, whether its split is taken, and the count up to which the side's rows are skipped.
+pub struct Cut {
+    pub peaks: Peaks,
+    pub taken: bool,
+    pub until: u32,
 }
 
 fn signed(count: u16) -> i32
@@ -142,14 +149,19 @@ fn fall(skip: u32) -> u32
     if skip == 0 { 0 } else { skip - 1 }
 }
 
-// A side's first row has no previous value, so that the cut before it is scored.
+// A side's first row has no previous value.
+fn is_same(started: bool, previous: f64, value: f64) -> bool
+    ensures { λ r. ⌜ r ≡ (started && eq previous value) ⌝ }
+{
+    if started { previous == value } else { false }
+}
+
+// So the cut before a side's first row is scored.
 fn is_quiet(started: bool, previous: f64, value: f64, skip: u32) -> bool
     ensures { λ r. ⌜ r ≡ ((started && eq previous value) || ltb 0 skip) ⌝ }
 {
-    if started {
-        if previous == value {
-            return true;
-        }
+    if is_same(started, previous, value) {
+        return true;
     }
     0 < skip
 }
@@ -207,118 +219,56 @@ fn judge(peaks: Peaks, counted: u32, rest: u32, least: u32, score: u32, skip: u3
     }
 }
 
-// The best after a cut: its split if that is taken, else what was best before.
-fn settle(
-    best: Best,
-    verdict: Verdict,
-    peaks: Peaks,
-    counted: u32,
-    rest: u32,
-    column: usize,
-    previous: f64,
-    value: f64,
-) -> Best
-    requires { ⌜ (peaks .before ≤ counted) × (peaks .after ≤ rest) ⌝ }
-    ensures { λ r. ⌜ r ≡ settled best verdict peaks counted rest column previous value ⌝ }
+// The split of a cut.
+fn split_of(peaks: Peaks, counted: u32, rest: u32, column: usize, previous: f64, value: f64) -> Best
+    requires { ⌜ (peaks .before ≤ counted) × (peaks .after ≤ rest) × (peaks .before + peaks .after ≤ mostRows) ⌝ }
+    ensures { λ r. ⌜ r ≡ splitBy peaks counted rest column previous value ⌝ }
 {
-    if verdict.taken {
-        let threshold = threshold::threshold_between(previous, value);
-        return Best {
-            score: verdict.total,
-            column,
-            threshold,
-            left: peaks.left,
-            right: peaks.right,
-            lost: counted - peaks.before,
-            missed: rest - peaks.after,
-        };
-    }
-    best
-}
-
-// A row of a side, its counts in place: what is not a count comes and goes by value.
-fn step_in_place(
-    mut side: Standing,
-    own: &[u16; MOST_LABELS],
-    seen: &mut [u16; MOST_LABELS],
-    column: usize,
-    label: usize,
-    value: f64,
-) -> Standing
-    requires { ⌜ (side .closed ≡ false → Ready (whole side (now own) (now seen)) label) ⌝ }
-    ensures { λ r. ⌜ Stepped (whole side (now (own .entry)) (now (seen .entry))) column label value r (now (seen .exit)) ⌝ }
-{
-    if side.closed {
-        return side;
-    }
-    let skip = fall(side.skip);
-    if is_quiet(side.started, side.previous, value, skip) {
-        side.skip = skip;
-    } else {
-        let counted = side.counted;
-        let previous = side.previous;
-        let rest = side.size - counted;
-        let was = side.best;
-        let peaks = find_peaks(own, seen, side.labels);
-        let verdict = judge(peaks, counted, rest, side.least, was.score, skip);
-        let best = settle(was, verdict, peaks, counted, rest, column, previous, value);
-        side.best = best;
-        side.skip = verdict.skip;
-        side.closed = verdict.closed;
-    }
-    seen[label] = seen[label] + 1;
-    side.counted = side.counted + 1;
-    side.started = true;
-    side.previous = value;
-    side
-}
-
-fn standing_of(side: SideScan) -> Standing
-    ensures { λ r. ⌜ r ≡ standing side ⌝ }
-{
-    let best = side.best;
-    Standing {
-        size: side.size,
-        labels: side.labels,
-        least: side.least,
-        best,
-        counted: side.counted,
-        skip: side.skip,
-        closed: side.closed,
-        started: side.started,
-        previous: side.previous,
-    }
-}
-
-fn with_counts(side: Standing, own: [u16; MOST_LABELS], seen: [u16; MOST_LABELS]) -> SideScan
-    ensures { λ r. ⌜ r ≡ whole side own seen ⌝ }
-{
-    let best = side.best;
-    SideScan {
-        own,
-        size: side.size,
-        labels: side.labels,
-        least: side.least,
-        best,
-        seen,
-        counted: side.counted,
-        skip: side.skip,
-        closed: side.closed,
-        started: side.started,
-        previous: side.previous,
+    let threshold = threshold::threshold_between(previous, value);
+    Best {
+        score: peaks.before + peaks.after,
+        column,
+        threshold,
+        left: peaks.left,
+        right: peaks.right,
+        lost: counted - peaks.before,
+        missed: rest - peaks.after,
     }
 }
 
 // One row of a side, the whole record by value.
-fn step(side: SideScan, column: usize, label: usize, value: f64) -> SideScan
+fn step(mut side: SideScan, column: usize, label: usize, value: f64) -> SideScan
     requires { ⌜ (side .closed ≡ false → Ready side label) ⌝ }
     ensures { λ r. ⌜ r ≡ stepOf side column label value ⌝ }
 {
+    if side.closed {
+        return side;
+    }
     let own = side.own;
     let mut seen = side.seen;
-    let was = standing_of(side);
-    let now = step_in_place(was, &own, &mut seen, column, label, value);
-    with_counts(now, own, seen)
+    let counted = side.counted;
+    let skip = fall(side.skip);
+    if is_quiet(side.started, side.previous, value, skip) {
+        side.skip = skip;
+    } else {
+        let previous = side.previous;
+        let rest = side.size - counted;
+        let was = side.best;
+        let peaks = find_peaks(&own, &seen, side.labels);
+        let verdict = judge(peaks, counted, rest, side.least, was.score, skip);
+        if verdict.taken {
+            let best = split_of(peaks, counted, rest, column, previous, value);
+            side.best = best;
+        }
+        side.skip = verdict.skip;
+        side.closed = verdict.closed;
+    }
+    seen[label] = seen[label] + 1;
+    side.seen = seen;
+    side.counted = counted + 1;
+    side.started = true;
+    side.previous = value;
+    side
 }
 
 fn row_number(entry: u16) -> usize
@@ -333,38 +283,153 @@ fn label_number(code: u8) -> usize
     code as usize
 }
 
-// Where a side stands at a column's start.
-fn clear(side: SideScan) -> Standing
-    ensures { λ r. ⌜ r ≡ standing (cleared side) ⌝ }
+fn side_number(side: u8) -> usize
+    ensures { λ r. ⌜ r ≡ side ⌝ }
 {
-    let mut now = standing_of(side);
-    now.counted = 0;
-    now.skip = 0;
-    now.closed = false;
-    now.started = false;
-    now.previous = 0.0;
-    now
+    side as usize
 }
 
-// Closed and frozen, a side still says how many of its rows were not counted.
-fn is_idle(size: u32, counted: u32, skip: u32) -> bool
-    ensures { λ r. ⌜ r ≡ leb (size - counted) skip ⌝ }
+// Whether a row is only counted: it is skipped, for its side counts `until` rows first, or its value is the side's previous one, that of row `last`.
+fn is_passed(values: &[f64], base: usize, row: usize, last: usize, counted: u32, until: u32) -> bool
+    requires { ⌜ (base + last < length (now values)) × (base + row < length (now values)) × (counted < mostRows) ⌝ }
+    ensures { λ r. ⌜ r ≡ passed (now (values .entry)) base row last counted until ⌝ }
 {
-    minus(size, counted) <= skip
-}
-
-fn is_over(closed: bool, shut: bool, idle: bool, quiet: bool) -> bool
-    ensures { λ r. ⌜ r ≡ ((closed && shut) || (idle && quiet)) ⌝ }
-{
-    if closed {
-        if shut {
-            return true;
-        }
+    if counted + 1 < until {
+        return true;
     }
-    if idle { quiet } else { false }
+    is_same(0 < counted, values[base + last], values[base + row])
 }
 
-// One column, both sides in one pass. The counts lie in the scan's own arrays, so that a row copies none of them.
+// The count up to which a side's rows are skipped after a cut: past all of its rows if it closes.
+fn until_after(verdict: Verdict, next: u32, size: u32) -> u32
+    requires { ⌜ (size ≤ mostRows) × (verdict .closed ≡ false → next + verdict .skip ≤ size) ⌝ }
+    ensures { λ r. ⌜ r ≡ untilAfter verdict next size ⌝ }
+{
+    if verdict.closed {
+        size + 1
+    } else {
+        next + verdict.skip
+    }
+}
+
+// The cut before a row that is not passed: skip has fallen to 0.
+fn score_cut(
+    own: &[u16; MOST_LABELS],
+    seen: &[u16; MOST_LABELS],
+    labels: usize,
+    counted: u32,
+    size: u32,
+    least: u32,
+    score: u32,
+) -> Cut
+    requires { ⌜ Scorable (now own) (now seen) labels counted size ⌝ }
+    ensures { λ r. ⌜ r ≡ cutOf (now (own .entry)) (now (seen .entry)) labels counted size least score ⌝ }
+{
+    let peaks = find_peaks(own, seen, labels);
+    let verdict = judge(peaks, counted, size - counted, least, score, 0);
+    let until = until_after(verdict, counted + 1, size);
+    Cut {
+        peaks,
+        taken: verdict.taken,
+        until,
+    }
+}
+
+// The split of the cut between two rows.
+fn split_at(
+    peaks: Peaks,
+    counted: u32,
+    size: u32,
+    column: usize,
+    values: &[f64],
+    base: usize,
+    last: usize,
+    row: usize,
+) -> Best
+    requires { ⌜ (peaks .before ≤ counted) × (counted ≤ size) × (peaks .after ≤ size - counted) × (size ≤ mostRows) × (base + last < length (now values)) × (base + row < length (now values)) ⌝ }
+    ensures { λ r. ⌜ r ≡ splitBy peaks counted (size - counted) column (getD (now (values .entry)) (base + last) nan) (getD (now (values .entry)) (base + row) nan) ⌝ }
+{
+    let previous = values[base + last];
+    let value = values[base + row];
+    split_of(peaks, counted, size - counted, column, previous, value)
+}
+
+// No side has a cut to come that could be taken.
+fn is_over(until: u32, size: u32, end: u32, rest: u32) -> bool
+    ensures { λ r. ⌜ r ≡ (leb size until && leb rest end) ⌝ }
+{
+    if size <= until { rest <= end } else { false }
+}
+
+// The rows of a column, both sides in one pass. What a row changes lies by the side's number, so that no row waits for the guess of its side.
+fn scan_rows(
+    own: &[[u16; MOST_LABELS]; SIDES],
+    sizes: [u32; SIDES],
+    least: u32,
+    first: Best,
+    second: Best,
+    size: Size,
+    column: usize,
+    values: &[f64],
+    codes: &[u8],
+    order: &[u16],
+    sides: &[u8; MOST_ROWS],
+) -> Bests
+    requires { ⌜ ReadyColumn (sheetOf size (now values) (now codes) (now order)) (now sides) column (bothAt (now own) sizes (size .labels) least first second) ⌝ }
+    ensures { λ r. ⌜ Found (sheetOf size (now (values .entry)) (now (codes .entry)) (now (order .entry))) (now (sides .entry)) column (bothAt (now (own .entry)) sizes (size .labels) least first second) r ⌝ }
+{
+    let mut bests: [Best; SIDES] = [first, second];
+    let mut seen: [[u16; MOST_LABELS]; SIDES] = [[0; MOST_LABELS]; SIDES];
+    let mut counted: [u32; SIDES] = [0; SIDES];
+    let mut until: [u32; SIDES] = [0; SIDES];
+    let mut last: [usize; SIDES] = [0; SIDES];
+    let base = column * size.rows;
+    let mut i: usize = 0;
+    while i < size.rows {
+        let row = row_number(order[base + i]);
+        let label = label_number(codes[row]);
+        let side = side_number(sides[row]);
+        let was = counted[side];
+        if !is_passed(values, base, row, last[side], was, until[side]) {
+            let best = bests[side];
+            let cut = score_cut(
+                &own[side],
+                &seen[side],
+                size.labels,
+                was,
+                sizes[side],
+                least,
+                best.score,
+            );
+            let peaks = cut.peaks;
+            if cut.taken {
+                bests[side] = split_at(
+                    peaks,
+                    was,
+                    sizes[side],
+                    column,
+                    values,
+                    base,
+                    last[side],
+                    row,
+                );
+            }
+            until[side] = cut.until;
+            if is_over(until[0], sizes[0], until[1], sizes[1]) {
+                break;
+            }
+        }
+        seen[side][label] = seen[side][label] + 1;
+        counted[side] = was + 1;
+        last[side] = row;
+        i += 1;
+    }
+    let left = bests[0];
+    let right = bests[1];
+    Bests { left, right }
+}
+
+// One column, the records of both sides by value.
 fn scan_column(
     both: Two,
     size: Size,
@@ -372,35 +437,36 @@ fn scan_column(
     values: &[f64],
     codes: &[u8],
     order: &[u16],
-    marks: &[u32],
+    sides: &[u8; MOST_ROWS],
 ) -> Two
-    requires { ⌜ ReadyColumn (sheetOf size (now values) (now codes) (now order)) (now marks) column both ⌝ }
-    ensures { λ r. ⌜ r ≡ scanColumn (sheetOf size (now (values .entry)) (now (codes .entry)) (now (order .entry))) (goLeft (now (marks .entry))) column both ⌝ }
+    requires { ⌜ ReadyColumn (sheetOf size (now values) (now codes) (now order)) (now sides) column both ⌝ }
+    ensures { λ r. ⌜ BothAlike r (scanColumn (sheetOf size (now (values .entry)) (now (codes .entry)) (now (order .entry))) (goLeft (now (sides .entry))) column both) ⌝ }
 {
-    let mut seen: [u16; MOST_LABELS] = [0; MOST_LABELS];
-    let mut met: [u16; MOST_LABELS] = [0; MOST_LABELS];
-    let mut left = clear(both.left);
-    let mut right = clear(both.right);
-    let base = column * size.rows;
-    let mut i: usize = 0;
-    while i < size.rows {
-        let row = row_number(order[base + i]);
-        let label = label_number(codes[row]);
-        let value = values[base + row];
-        if marks[row] == 0 {
-            left = step_in_place(left, &both.left.own, &mut seen, column, label, value);
-        } else {
-            right = step_in_place(right, &both.right.own, &mut met, column, label, value);
-        }
-        i += 1;
-        let idle = is_idle(left.size, left.counted, left.skip);
-        let quiet = is_idle(right.size, right.counted, right.skip);
-        if is_over(left.closed, right.closed, idle, quiet) {
-            break;
-        }
-    }
-    let left = with_counts(left, both.left.own, seen);
-    let right = with_counts(right, both.right.own, met);
+    let mut left = both.left;
+    let mut right = both.right;
+    let mine = left.own;
+    let theirs = right.own;
+    let own = [mine, theirs];
+    let sizes = [left.size, right.size];
+    let first = left.best;
+    let second = right.best;
+    let bests = scan_rows(
+        &own,
+        sizes,
+        left.least,
+        first,
+        second,
+        size,
+        column,
+        values,
+        codes,
+        order,
+        sides,
+    );
+    let best = bests.left;
+    let other = bests.right;
+    left.best = best;
+    right.best = other;
     Two { left, right }
 }
 
@@ -417,27 +483,54 @@ fn commonest_label(own: &[u16; MOST_LABELS], labels: usize) -> Peak
     }
 }
 
-// How many rows of each label go to each side, and how many in all.
-fn part_rows(rows: usize, codes: &[u8], marks: &[u32]) -> Parted
-    requires { ⌜ ReadyRows rows (now codes) (now marks) ⌝ }
-    ensures { λ r. ⌜ r ≡ partedOf rows (now (codes .entry)) (now (marks .entry)) ⌝ }
+// The number of the side that a mark sends a row to.
+fn marked_side(mark: u32) -> usize
+    ensures { λ r. ⌜ r ≡ pick (eqb mark 0) 0 1 ⌝ }
 {
-    let mut own: [u16; MOST_LABELS] = [0; MOST_LABELS];
-    let mut other: [u16; MOST_LABELS] = [0; MOST_LABELS];
-    let mut size: u32 = 0;
+    if mark == 0 { 0 } else { 1 }
+}
+
+fn side_byte(side: usize) -> u8
+    requires { ⌜ side < 2 ⌝ }
+    ensures { λ r. ⌜ r ≡ side ⌝ }
+{
+    side as u8
+}
+
+fn side_count(side: usize) -> u32
+    requires { ⌜ side < 2 ⌝ }
+    ensures { λ r. ⌜ r ≡ side ⌝ }
+{
+    side as u32
+}
+
+fn row_count(rows: usize) -> u32
+    requires { ⌜ rows ≤ mostRows ⌝ }
+    ensures { λ r. ⌜ r ≡ rows ⌝ }
+{
+    rows as u32
+}
+
+// How many rows of each label go to each side, and how many in all; and each row's side as a number.
+fn part_rows(rows: usize, codes: &[u8], marks: &[u32], sides: &mut [u8; MOST_ROWS]) -> Parted
+    requires { ⌜ ReadyRows rows (now codes) (now marks) × (rows ≤ length (now sides)) ⌝ }
+    ensures { λ r. ⌜ r ≡ partedOf rows (now (codes .entry)) (now (marks .entry)) ⌝ }
+    ensures numbered { λ _. ⌜ Numbered rows (now (marks .entry)) (now (sides .exit)) ⌝ }
+{
+    let mut counts: [[u16; MOST_LABELS]; SIDES] = [[0; MOST_LABELS]; SIDES];
     let mut rest: u32 = 0;
     let mut row: usize = 0;
     while row < rows {
         let label = label_number(codes[row]);
-        if marks[row] == 0 {
-            own[label] = own[label] + 1;
-            size += 1;
-        } else {
-            other[label] = other[label] + 1;
-            rest += 1;
-        }
+        let side = marked_side(marks[row]);
+        counts[side][label] = counts[side][label] + 1;
+        sides[row] = side_byte(side);
+        rest += side_count(side);
         row += 1;
     }
+    let own = counts[0];
+    let other = counts[1];
+    let size = row_count(rows) - rest;
     Parted {
         own,
         size,
@@ -505,9 +598,10 @@ fn scan_columns(
     marks: &[u32],
 ) -> Two
     requires { ⌜ Scannable (sheetOf size (now values) (now codes) (now order)) (now marks) ⌝ }
-    ensures { λ r. ⌜ r ≡ scanned (sheetOf size (now (values .entry)) (now (codes .entry)) (now (order .entry))) support (goLeft (now (marks .entry))) ⌝ }
+    ensures { λ r. ⌜ BothAlike r (scanned (sheetOf size (now (values .entry)) (now (codes .entry)) (now (order .entry))) support (goLeft (now (marks .entry)))) ⌝ }
 {
-    let parted = part_rows(size.rows, codes, marks);
+    let mut numbers: [u8; MOST_ROWS] = [0; MOST_ROWS];
+    let parted = part_rows(size.rows, codes, marks, &mut numbers);
     let least = least_rows(support);
     let own = parted.own;
     let other = parted.other;
@@ -516,7 +610,7 @@ fn scan_columns(
     let mut both = Two { left, right };
     let mut column: usize = 0;
     while column < size.columns {
-        both = scan_column(both, size, column, values, codes, order, marks);
+        both = scan_column(both, size, column, values, codes, order, &numbers);
         column += 1;
         if is_perfect(both) {
             break;

@@ -3,74 +3,25 @@
 use mathlib.Core.Path.{_≡_, refl, sym, ap, _∙_, subst}
 use Prim.Native.Nat.{ℕ, zero, suc, _+_, _≤_, _<_}
 use native.Mathlib.Omega.{arith}
-use mathlib.Core.Bool.{Bool, not, _&&_, _||_}
-use mathlib.Core.List.{List, _∷_}
-use lib.Dec.{T, eqb, eqb→eq}
+use mathlib.Core.Bool.{Bool, _&&_}
+use lib.Dec.{eqb, eqb→eq}
 use Rattle.basics.specs.Lists.{those}
-use Rattle.basics.proofs.Choice.{by-test, either, and-left, and-right}
-use Rattle.sheet.specs.Sheet.{Sheet, rowAt, orderOf}
+use Rattle.basics.proofs.Choice.{by-test, and-left, and-right}
+use Rattle.sheet.specs.Sheet.{Sheet, orderOf}
 use Rattle.sheet.specs.Sound.{Sound}
 use Rattle.leaves_score.specs.declared.SideScan.{SideScan}
 use Rattle.leaves_score.specs.declared.Two.{Two}
-use Rattle.leaves_score.specs.Scan.{other, startOf, cleared, stepBoth, idle, ended, scanRows, scanColumn, perfect, scanColumns, leafLabel, leafScore, sideOf, startBoth, scanned, sidesOf}
-use Rattle.leaves_score.specs.Kept.{rowsFrom, Owns, Live}
-use Rattle.leaves_score.proofs.Live.{left-is, right-is, live-left, live-right, owns-start, owns-cleared, rows-order, start-live}
-use Rattle.side_laws.specs.Alone.{through, columnAlone, columnsAlone, alone, sideAlone, Decoupled, Decouples}
-use Rattle.side_laws.proofs.Tests.{or-left, or-right}
-use Rattle.side_laws.proofs.Single.{stays, perfected, runs-at, owns-through}
-
--- what crosses to the next column is the same
-abbrev Alike : SideScan → SideScan → Type 0
-Alike a b = cleared a ≡ cleared b
+use Rattle.leaves_score.specs.Scan.{other, startOf, cleared, scanRows, scanColumn, perfect, scanColumns, startBoth, scanned, sidesOf}
+use Rattle.leaves_score.specs.Kept.{through, Alike, Owns, Live}
+use Rattle.leaves_score.proofs.Single.{perfected, owns-through}
+use Rattle.leaves_score.proofs.Coupled.{both-rows}
+use Rattle.leaves_score.proofs.Columns.{side-alike, owns-alike}
+use Rattle.leaves_score.proofs.Live.{owns-start, owns-cleared, rows-order, start-live}
+use Rattle.side_laws.specs.Alone.{columnAlone, columnsAlone, alone, sideAlone, Decoupled, Decouples}
 
 twice : (t : SideScan) → cleared (cleared t) ≡ cleared t
 unfolding cleared
 twice t = refl
-
--- ---- the rows of a column
-
-ended-left : (b : Two) → T (ended b) → T (b .left .closed || idle (b .left))
-unfolding ended
-ended-left b e =
-    either (b .left .closed && b .right .closed) (idle (b .left) && idle (b .right)) e
-    (λ y. or-left (b .left .closed) _ (and-left (b .left .closed) _ y))
-    (λ y. or-right (b .left .closed) _ (and-left (idle (b .left)) _ y))
-
-ended-right : (b : Two) → T (ended b) → T (b .right .closed || idle (b .right))
-unfolding ended
-ended-right b e =
-    either (b .left .closed && b .right .closed) (idle (b .left) && idle (b .right)) e
-    (λ y. or-left (b .right .closed) _ (and-right (b .left .closed) _ y))
-    (λ y. or-right (b .right .closed) _ (and-right (idle (b .left)) _ y))
-
-module _ (s : Sheet) (mark : ℕ → Bool) (c : ℕ) where
-  runs-left : (r : ℕ) (rs : List ℕ) (b : Two) → through s c (those mark (r ∷ rs)) (b .left) ≡ through s c (those mark rs) ((stepBoth s mark c r b) .left)
-  runs-left r rs b = runs-at s c r (mark r) (those mark rs) (b .left) ∙ ap (through s c (those mark rs)) (sym (left-is s mark c r b))
-
-  runs-right : (r : ℕ) (rs : List ℕ) (b : Two)
-      → through s c (those (other mark) (r ∷ rs)) (b .right) ≡ through s c (those (other mark) rs) ((stepBoth s mark c r b) .right)
-  runs-right r rs b = runs-at s c r (other mark r) (those (other mark) rs) (b .right) ∙ ap (through s c (those (other mark) rs)) (sym (right-is s mark c r b))
-
-  pub both-rows : (n i : ℕ) (b : Two) → Live s (those mark (rowsFrom s c n i)) (b .left) → Live s (those (other mark) (rowsFrom s c n i)) (b .right)
-      → Alike ((scanRows s mark c n i b) .left) (through s c (those mark (rowsFrom s c n i)) (b .left))
-      × Alike ((scanRows s mark c n i b) .right) (through s c (those (other mark) (rowsFrom s c n i)) (b .right))
-  unfolding scanRows rowsFrom through
-  both-rows zero i b hl hr = (refl, refl)
-  both-rows (suc n) i b hl hr =
-      let r : ℕ = rowAt s c i in
-      let rs : List ℕ = rowsFrom s c n (suc i) in
-      let next : Two = stepBoth s mark c r b in
-      let kl : Live s (those mark rs) (next .left) = live-left s mark c r b rs hl in
-      let kr : Live s (those (other mark) rs) (next .right) = live-right s mark c r b rs hr in
-      let z = by-test
-      (λ z. Alike (z .left) (through s c (those mark rs) (next .left)) × Alike (z .right) (through s c (those (other mark) rs) (next .right)))
-      (ended next) {x = next} {y = scanRows s mark c n (suc i) next}
-      (λ e. (
-        sym (stays s c (those mark rs) (next .left) kl (ended-left next e)),
-        sym (stays s c (those (other mark) rs) (next .right) kr (ended-right next e)),
-      ))
-      (λ _. both-rows n (suc i) next kl kr) in
-      (z .0 ∙ sym (ap cleared (runs-left r rs b)), z .1 ∙ sym (ap cleared (runs-right r rs b)))
 
 -- ---- the columns
 
@@ -136,7 +87,7 @@ module _ (s : Sheet) (sound : Sound s) (support : ℕ) where
         let a : Two = scanColumn s mark c b in
         let u : SideScan = columnAlone s mark c x in
         let v : SideScan = columnAlone s (other mark) c y in
-        let k = both-column c (omega arith) b (owns-alike mark (b .left) x ex ox) (owns-alike (other mark) (b .right) y ey oy) in
+        let k = both-column c (omega arith) b (owns-alike s support mark (b .left) x ex ox) (owns-alike s support (other mark) (b .right) y ey oy) in
         let el : Alike (a .left) u = k .0 ∙ ap cleared (column-alike mark c (b .left) x ex) in
         let er : Alike (a .right) v = k .1 ∙ ap cleared (column-alike (other mark) c (b .right) y ey) in
         let ou : Owns s support mark u = owns-column mark c x ox in
@@ -148,13 +99,6 @@ module _ (s : Sheet) (sound : Sound s) (support : ℕ) where
           er ∙ sym (columns-perfect (other mark) n (suc c) v (omega arith) ov (score-alike v (a .right) (sym er) (eqb→eq _ _ (and-right (eqb (a .left .best .score) (a .left .size)) _ e)))),
         ))
         (λ _. both-columns n (suc c) (omega arith) a u v el er ou ov)
-      where
-        owns-alike : (mine : ℕ → Bool) (a b : SideScan) → Alike a b → Owns s support mine b → Owns s support mine a
-        owns-alike mine a b e o = unfold cleared in subst (Owns s support mine) (sym e) o
-
-    side-alike : (a b : SideScan) → Alike a b → sideOf a ≡ sideOf b
-    unfolding sideOf cleared leafLabel leafScore
-    side-alike a b e = ap sideOf e
 
     pub decoupled-sides : Decoupled s support mark
     unfolding sidesOf scanned sideAlone alone startBoth

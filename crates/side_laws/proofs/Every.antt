@@ -16,14 +16,14 @@ use Rattle.sheet.specs.Sound.{Sound}
 use Rattle.leaves_score.specs.declared.SideScan.{SideScan}
 use Rattle.leaves_score.specs.declared.Best.{Best}
 use Rattle.leaves_score.specs.Scan.{nought, noRows, sizeOf, ownOf, startOf, cleared, fallen, quiet, rowsLeft, leftBest, rightBest, totalOf, supported, takes, splitAt, bestAfter, skipAfter, closes, countRow, onlyCounted, scored}
-use Rattle.leaves_score.specs.Kept.{Owns, Fits, Open}
+use Rattle.leaves_score.specs.Kept.{through, Owns, Fits, Open}
 use Rattle.leaves_score.proofs.Counts.{rows-left}
 use Rattle.leaves_score.proofs.Live.{best-left, skip-taken, skip-left, skip-low, step-open, open-counted, open-scored, owns-start, start-live}
-use Rattle.side_laws.specs.Alone.{through, columnAlone, columnsAlone, alone}
+use Rattle.side_laws.specs.Alone.{columnAlone, columnsAlone, alone}
 use Rattle.side_laws.specs.First.{better, firstBest}
 use Rattle.side_laws.specs.Every.{pureFrom, offersFrom, offersOf, allOffers, Offered}
 use Rattle.side_laws.proofs.Tests.{not-not, and-off, pick-and, pick-and-true, pick-same}
-use Rattle.side_laws.proofs.Single.{shut}
+use Rattle.leaves_score.proofs.Single.{shut}
 use Rattle.side_laws.proofs.Decouple.{owns-column}
 use Rattle.side_laws.proofs.Best.{bare, starts, better-low, first-low, first-append, split-score, next, next-fits, next-total, next-left, total-pure}
 

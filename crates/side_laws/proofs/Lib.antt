@@ -1,6 +1,5 @@
 -- Laws of the scan, proved; `specs/` states them.
 pub mod Tests
-pub mod Single
 pub mod Decouple
 pub mod Sums
 pub mod Fair

@@ -9,10 +9,10 @@ use Rattle.sheet.specs.Sheet.{Sheet}
 use Rattle.sheet.specs.Sound.{Sound}
 use Rattle.leaves_score.specs.declared.SideScan.{SideScan}
 use Rattle.leaves_score.specs.Scan.{startOf, cleared, rowStep}
-use Rattle.leaves_score.specs.Kept.{Owns, Fits, Live}
+use Rattle.leaves_score.specs.Kept.{through, Owns, Fits, Live}
 use Rattle.leaves_score.proofs.Live.{own-at, live-step, start-live, owns-start, owns-cleared}
-use Rattle.side_laws.specs.Alone.{through, columnsAlone, AddUp, AddsUp}
-use Rattle.side_laws.proofs.Single.{owns-through}
+use Rattle.side_laws.specs.Alone.{columnsAlone, AddUp, AddsUp}
+use Rattle.leaves_score.proofs.Single.{owns-through}
 use Rattle.side_laws.proofs.Decouple.{owns-columns}
 
 live-through : (s : Sheet) (c : ℕ) (done rest : List ℕ) (t : SideScan) → Live s (done ++ rest) t → Live s rest (through s c done t)

@@ -7,8 +7,9 @@ use mathlib.Core.List.{List, [], _∷_}
 use lib.ListN.{length}
 use Rattle.basics.specs.Choice.{bit}
 use Rattle.basics.specs.Lists.{All, tally}
-use Rattle.basics.proofs.Lists.{tally-same, tally-parts}
+use Rattle.basics.proofs.Lists.{tally-parts}
 use Rattle.sheet.specs.Sheet.{Sheet, everyRow}
+pub use Rattle.leaves_score.proofs.Marks.{rows-alike}
 use Rattle.side_laws.proofs.Fair.{all-table}
 
 pub tally-not {ℓ} : {A : Type ℓ} (q : A → Bool) (xs : List A) → tally q xs + tally (λ x. not (q x)) xs ≡ length xs
@@ -22,10 +23,6 @@ tally-not q (x ∷ xs) = omega (arith, one (q x), tally-not q xs)
 pub tally-always {ℓ} : {A : Type ℓ} (xs : List A) → tally (λ _. true) xs ≡ length xs
 tally-always [] = refl
 tally-always (x ∷ xs) = omega (arith, tally-always xs)
-
--- two tests that agree on the sheet's rows count alike
-pub rows-alike : (s : Sheet) (p q : ℕ → Bool) → ((r : ℕ) → r < s .rows → bit (p r) ≡ bit (q r)) → tally p (everyRow s) ≡ tally q (everyRow s)
-rows-alike s p q h = tally-same p q (everyRow s) (all-table (λ r. bit (p r) ≡ bit (q r)) (λ r. r) (s .rows) h)
 
 tally-shift : (p q u v : ℕ → Bool) (xs : List ℕ) → All (λ r. bit (p r) + bit (q r) ≤ bit (u r) + bit (v r)) xs
     → tally p xs + tally q xs ≤ tally u xs + tally v xs

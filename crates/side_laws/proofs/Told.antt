@@ -21,12 +21,12 @@ use Rattle.leaves_score.specs.declared.SideScan.{SideScan}
 use Rattle.leaves_score.specs.declared.Best.{Best}
 use Rattle.leaves_score.specs.Commonest.{commonest, mostOf}
 use Rattle.leaves_score.specs.Scan.{sizeOf, ownOf, startOf, cleared, fallen, quiet, before, later, rowsLeft, leftBest, rightBest, totalOf, supported, takes, splitAt, bestAfter, countRow, onlyCounted, scored}
-use Rattle.leaves_score.specs.Kept.{Owns, Fits, Live}
+use Rattle.leaves_score.specs.Kept.{through, Owns, Fits, Live}
 use Rattle.leaves_score.proofs.Commonest.{commonest-in}
 use Rattle.leaves_score.proofs.Counts.{later-is, rows-left, left-few, right-few}
 use Rattle.leaves_score.proofs.Live.{best-taken, best-left, step-open, step-closed, open-counted, open-scored, owns-start, owns-cleared, start-live}
-use Rattle.side_laws.specs.Alone.{through, columnAlone, columnsAlone, alone}
-use Rattle.side_laws.proofs.Single.{shut}
+use Rattle.side_laws.specs.Alone.{columnAlone, columnsAlone, alone}
+use Rattle.leaves_score.proofs.Single.{shut}
 use Rattle.side_laws.proofs.Decouple.{owns-column}
 use Rattle.side_laws.proofs.Tallies.{tally-not, tally-always, rows-alike}
 use Rattle.side_laws.proofs.Fair.{keyOf, alike}

@@ -3,7 +3,7 @@
 use mathlib.Core.Path.{_≡_}
 use Prim.Native.Nat.{ℕ, zero, suc, _+_, _<_}
 use mathlib.Core.Bool.{Bool, not}
-use mathlib.Core.List.{List, [], _∷_, _++_}
+use mathlib.Core.List.{List, _++_}
 use lib.ListN.{length}
 use lib.Dec.{T, eqb}
 use Rattle.basics.specs.Lists.{tally, those}
@@ -11,12 +11,8 @@ use Rattle.sheet.specs.Sheet.{Sheet, labelOf, orderOf}
 use Rattle.sheet.specs.Sound.{Sound}
 use Rattle.tree.specs.declared.Side.{Side}
 use Rattle.leaves_score.specs.declared.SideScan.{SideScan}
-use Rattle.leaves_score.specs.Scan.{other, sizeOf, labelled, startOf, cleared, before, rowStep, sideOf, sidesOf}
-
--- the rows of a list, one after another
-unfoldable pub through : Sheet → ℕ → List ℕ → SideScan → SideScan
-through s c [] t = t
-through s c (r ∷ rs) t = through s c rs (rowStep s c r t)
+use Rattle.leaves_score.specs.Kept.{through}
+use Rattle.leaves_score.specs.Scan.{other, sizeOf, labelled, startOf, cleared, before, sideOf, sidesOf}
 
 unfoldable pub columnAlone : Sheet → (ℕ → Bool) → ℕ → SideScan → SideScan
 columnAlone s mine c t = through s c (those mine (orderOf s c)) (cleared t)

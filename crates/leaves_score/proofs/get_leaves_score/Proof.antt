@@ -1,12 +1,11 @@
 -- `leaves_score::get_leaves_score` meets its contract: the two sides of what the scan of all columns ends in. Assumes nothing.
-use mathlib.Core.Path.{sym, ap, subst, _∙_}
+use mathlib.Core.Path.{ap₂, _∙_}
 use Rattle.sheet.specs.Sheet.{Sheet}
-use Rattle.leaves_score.specs.declared.Two.{Two}
 use Rattle.tree.specs.declared.Side.{Side}
-use Rattle.leaves_score.specs.Scan.{other, sideOf, sidesOf}
+use Rattle.leaves_score.specs.Scan.{other, scanned, sidesOf}
 use Rattle.leaves_score.specs.Step.{Sized}
 use Rattle.leaves_score.specs.Lists.{sheetOf, goLeft}
-use Rattle.leaves_score.proofs.Columns.{Both, both-scanned, sized}
+use Rattle.leaves_score.proofs.Columns.{Both, both-scanned, both-alike, side-alike, sized}
 use borrow.Author.Needs.{needs}
 use Rattle.leaves_score.proofs.get_leaves_score.Statement.{statement}
 use Rattle.leaves_score.proofs.get_leaves_score.Tie as tie
@@ -22,7 +21,9 @@ module _ (c : tie.After-scan-columns) where
   sheet = sheetOf (start .args .size) (start .args .values .now) (start .args .codes .now) (start .args .order .now)
 
   both : Both sheet (start .args .support) (goLeft (start .args .marks .now)) (c .scan-columns .result)
-  both = subst (Both sheet (start .args .support) (goLeft (start .args .marks .now))) (sym (c .scan-columns .ensures)) (both-scanned sheet (start .args .support) (goLeft (start .args .marks .now)))
+  both =
+      both-alike sheet (start .args .support) (goLeft (start .args .marks .now)) (c .scan-columns .result) (scanned sheet (start .args .support) (goLeft (start .args .marks .now)))
+      (c .scan-columns .ensures) (both-scanned sheet (start .args .support) (goLeft (start .args .marks .now)))
 
   left-sized : Sized (c .scan-columns .result .left)
   left-sized = sized sheet (start .args .support) (goLeft (start .args .marks .now)) (c .scan-columns .result .left) (both .left) (start .pre .limited .labels-some) (start .pre .limited .labels-most)
@@ -41,9 +42,8 @@ returns : tie.Need-returns
 unfolding sidesOf
 returns c =
     let d = c .before .before .before .before in
-    ap (λ (t : Side). record { left = t; right = c .side-of2 .result }) (c .before .side-of .ensures)
-    ∙ ap (λ (t : Side). record { left = sideOf (d .scan-columns .result .left); right = t }) (c .side-of2 .ensures)
-    ∙ ap (λ (z : Two). record { left = sideOf (z .left); right = sideOf (z .right) }) (d .scan-columns .ensures)
+    let k = d .scan-columns in
+    ap₂ (λ (l r : Side). record { left = l; right = r }) (c .before .side-of .ensures ∙ side-alike _ _ (k .ensures .left)) (c .side-of2 .ensures ∙ side-alike _ _ (k .ensures .right))
 
 pub get-leaves-score-spec : {M : Type 1} → statement M
 get-leaves-score-spec =

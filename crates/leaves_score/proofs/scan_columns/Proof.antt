@@ -1,5 +1,5 @@
 -- `leaves_score::scan_columns` meets its contract: the loop keeps `Scanning` (`Columns.antt`). Assumes nothing.
-use Prim.Native.Nat.{ℕ, _+_, _-_, _<_}
+use Prim.Native.Nat.{ℕ, _-_, _<_}
 use mathlib.Core.Path.{_≡_, refl, sym, ap, subst, _∙_}
 use mathlib.Core.Bool.{Bool}
 use mathlib.Core.List.{List}
@@ -9,13 +9,14 @@ use lib.ListN.{getD}
 use lib.Ieee.{Float}
 use Rattle.sheet.specs.Sheet.{Sheet, labelOf, leastRows}
 use Rattle.leaves_score.specs.declared.SideScan.{SideScan}
-use Rattle.leaves_score.specs.declared.Two.{Two}
 use Rattle.sheet.specs.declared.Size.{Size}
 use Rattle.leaves_score.specs.declared.Parted.{Parted}
-use Rattle.leaves_score.specs.Scan.{other, sizeOf, labelled, ownOf, startOf, startBoth, scanColumn, perfect}
+use Rattle.leaves_score.specs.Scan.{other, sizeOf, labelled, ownOf, startOf, startBoth, scanned}
+use Rattle.leaves_score.specs.Kept.{BothAlike}
 use Rattle.leaves_score.specs.Step.{leafScan}
-use Rattle.leaves_score.specs.Lists.{sheetOf, goLeft, rowsOnly, partedOf, ReadyColumn, ReadyRows, Scannable}
-use Rattle.leaves_score.proofs.Columns.{Scanning, begins, finished, stops, goes-on, ready-column}
+use Rattle.leaves_score.specs.Lists.{sheetOf, goLeft, Numbered, rowsOnly, partedOf, ReadyColumn, ReadyRows, Scannable}
+use Rattle.leaves_score.proofs.Marks.{starts-alike, scanned-alike}
+use Rattle.leaves_score.proofs.Columns.{Scanning, begins, finished, stops, goes-on, ready-column, same-side}
 use Rattle.leaves_score.proofs.scan_columns.Statement.{statement}
 use Rattle.leaves_score.proofs.scan_columns.Tie as tie
 
@@ -57,13 +58,16 @@ rows-ready s marks h =
     unlabelled r k = unfold labelOf in h .labelled r k
 
 abbrev Inv-loop : tie.InvT-loop
-Inv-loop size support values codes order marks least both₀ column₀ both column = Scanning (sheetOf size values codes order) support marks column both
+Inv-loop size support values codes order marks numbers least both₀ column₀ both column =
+    Scanning (sheetOf size values codes order) support (goLeft numbers) column both
 
 abbrev μ-loop : tie.MeasureT-loop
-μ-loop size support values codes order marks least both₀ column₀ both column = size .columns - column
+μ-loop size support values codes order marks numbers least both₀ column₀ both column = size .columns - column
 
 part-rows-requires : tie.Need-part-rows-requires Inv-loop μ-loop
-part-rows-requires c κs = rows-ready _ _ (c .before .before .before .before .pre)
+part-rows-requires c κs =
+    let p = c .before .before .before .before .before in
+    (rows-ready _ _ (p .pre), p .pre .limited .rows-most)
 
 least-rows-requires : tie.Need-least-rows-requires Inv-loop μ-loop
 least-rows-requires c κs = search needs
@@ -74,41 +78,54 @@ begin-requires c κs = search needs
 begin-requires-2 : tie.Need-begin-requires-2 Inv-loop μ-loop
 begin-requires-2 c κs = search needs
 
+-- the rows' sides as numbers, after they are parted
+module _ (c : tie.After-part-rows Inv-loop μ-loop) where
+  abbrev start : tie.Start Inv-loop μ-loop
+  start = c .before .before .before .before .before .before
+
+  abbrev sheet : Sheet
+  sheet = sheetOf (start .args .size) (start .args .values .now) (start .args .codes .now) (start .args .order .now)
+
+  abbrev marks : List ℕ
+  marks = start .args .marks .now
+
+  abbrev sides : List ℕ
+  sides = c .part-rows .last .1 .1 .1 .0
+
+  numbered : Numbered (start .args .size .rows) marks sides
+  numbered = c .part-rows .ensures .1
+
+  alike : (r : ℕ) → r < start .args .size .rows → goLeft sides r ≡ goLeft marks r
+  alike = same-side sheet (start .args .support) marks sides (start .pre) numbered
+
+  scanned-same : scanned sheet (start .args .support) (goLeft sides) ≡ scanned sheet (start .args .support) (goLeft marks)
+  scanned-same = scanned-alike sheet (goLeft sides) (goLeft marks) (start .pre .in-rows) alike (start .args .support)
+
 loop-holds : tie.Need-loop-holds Inv-loop μ-loop
 loop-holds c =
-    let p = c .before .before .before .before .before in
-    let a = p .before .before .before .before .before .args in
+    let q = c .before .before .before .before .before in
+    let a = start q .args in
     let n = c .before .before .before .before in
-    begins (sheetOf (a .size) (a .values .now) (a .codes .now) (a .order .now)) (a .support) (a .marks .now) (record { left = c .before .begin .result; right = c .begin2 .result })
-    (begun (a .size) (a .values .now) (a .codes .now) (a .order .now) (a .marks .now) (a .support) (p .part-rows .result) (n .least-rows .result) (c .before .begin .result) (c .begin2 .result)
-    (p .part-rows .ensures) (n .least-rows .ensures) (c .before .begin .ensures) (c .begin2 .ensures))
+    begins (sheet q) (a .support) (goLeft (sides q)) (record { left = c .before .begin .result; right = c .begin2 .result })
+    (begun (a .size) (a .values .now) (a .codes .now) (a .order .now) (a .marks .now) (a .support) (q .part-rows .result) (n .least-rows .result) (c .before .begin .result) (c .begin2 .result)
+    (q .part-rows .ensures .0) (n .least-rows .ensures) (c .before .begin .ensures) (c .begin2 .ensures)
+    ∙ sym (starts-alike (sheet q) (goLeft (sides q)) (goLeft (marks q)) (start q .pre .in-rows) (alike q) (a .support)))
 
 -- at a column
 module _ (c : tie.Then1 Inv-loop μ-loop) where
   abbrev head : tie.At-loop Inv-loop μ-loop
   head = c .before .before
 
-  abbrev start : tie.Start Inv-loop μ-loop
-  start = head .before .before .before .before .before .before .before .before .before .before .before
+  abbrev parted : tie.After-part-rows Inv-loop μ-loop
+  parted = head .before .before .before .before .before .before
 
-  abbrev sheet : Sheet
-  sheet = sheetOf (start .args .size) (start .args .values .now) (start .args .codes .now) (start .args .order .now)
-
-  ready : ReadyColumn sheet (start .args .marks .now) (head .loop .column) (head .loop .both)
-  ready = ready-column sheet (start .args .support) (start .args .marks .now) (head .loop .column) (head .loop .both) (head .loop .inv) (c .if1 .taken) (start .pre)
-
-module _ (c : tie.After-is-perfect Inv-loop μ-loop) where
-  abbrev at : tie.Then1 Inv-loop μ-loop
-  at = c .before .before
-
-  abbrev next : Two
-  next = scanColumn (sheet at) (goLeft (start at .args .marks .now)) (head at .loop .column) (head at .loop .both)
-
-  tested : c .is-perfect .result ≡ perfect next
-  tested = c .is-perfect .ensures ∙ ap perfect (c .before .scan-column .ensures)
+  ready : ReadyColumn (sheet parted) (sides parted) (head .loop .column) (head .loop .both)
+  ready =
+      ready-column (sheet parted) (start parted .args .support) (marks parted) (sides parted) (start parted .pre) (numbered parted) (head .loop .column) (head .loop .both) (c .if1 .taken)
+      (head .loop .inv .both)
 
 scan-column-requires : tie.Need-scan-column-requires Inv-loop μ-loop
-scan-column-requires c κs = ready c
+scan-column-requires c κs = ready (c .before)
 
 add-column : tie.Need-add-column Inv-loop μ-loop
 add-column c = search needs
@@ -121,23 +138,27 @@ loop-less c = search needs
 
 loop-again : tie.Need-loop-again Inv-loop μ-loop
 loop-again c =
-    let d = c .before in
-    let a = start (at d) .args in
-    subst (λ (b : Two). Scanning (sheet (at d)) (a .support) (a .marks .now) (head (at d) .loop .column + 1) b) (sym (d .before .scan-column .ensures))
-    (goes-on (sheet (at d)) (a .support) (a .marks .now) (head (at d) .loop .column) (head (at d) .loop .both) (head (at d) .loop .inv) (at d .if1 .taken) (sym (tested d) ∙ c .if2 .left))
+    let d = c .before .before in
+    let t = d .before .before in
+    let q = parted t in
+    goes-on (sheet q) (start q .args .support) (goLeft (sides q)) (head t .loop .column) (head t .loop .both) (head t .loop .inv) (t .if1 .taken) (d .scan-column .result) (d .scan-column .ensures)
+    (sym (c .before .is-perfect .ensures) ∙ c .if2 .left)
 
 returns : tie.Need-returns Inv-loop μ-loop
 returns c =
     let h = c .before .before in
-    let a = h .before .before .before .before .before .before .before .before .before .before .before .args in
-    finished (sheetOf (a .size) (a .values .now) (a .codes .now) (a .order .now)) (a .support) (a .marks .now) (h .loop .column) (h .loop .both) (h .loop .inv) (c .if1 .left)
+    let q = h .before .before .before .before .before .before in
+    subst (BothAlike (h .loop .both)) (scanned-same q)
+    (finished (sheet q) (start q .args .support) (goLeft (sides q)) (h .loop .column) (h .loop .both) (h .loop .inv) (c .if1 .left))
 
 returns-2 : tie.Need-returns-2 Inv-loop μ-loop
 returns-2 c =
-    let d = c .before in
-    let a = start (at d) .args in
-    d .before .scan-column .ensures
-    ∙ stops (sheet (at d)) (a .support) (a .marks .now) (head (at d) .loop .column) (head (at d) .loop .both) (head (at d) .loop .inv) (at d .if1 .taken) (sym (tested d) ∙ c .if2 .taken)
+    let d = c .before .before in
+    let t = d .before .before in
+    let q = parted t in
+    subst (BothAlike (d .scan-column .result)) (scanned-same q)
+    (stops (sheet q) (start q .args .support) (goLeft (sides q)) (head t .loop .column) (head t .loop .both) (head t .loop .inv) (t .if1 .taken) (d .scan-column .result) (d .scan-column .ensures)
+    (sym (c .before .is-perfect .ensures) ∙ c .if2 .taken))
 
 pub scan-columns-spec : {M : Type 1} → statement M
 scan-columns-spec =

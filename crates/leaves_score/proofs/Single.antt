@@ -3,7 +3,7 @@
 use mathlib.Core.Path.{_≡_, refl, ap, _∙_}
 use Prim.Native.Nat.{ℕ, _≤_}
 use native.Mathlib.Omega.{arith}
-use mathlib.Core.Bool.{Bool, true, false, not, _||_}
+use mathlib.Core.Bool.{Bool, true, false, _||_}
 use mathlib.Core.List.{List, [], _∷_}
 use lib.ListN.{length}
 use lib.Ieee.{Float}
@@ -11,13 +11,12 @@ use lib.Dec.{T, T-not, leb, leb→le}
 use Rattle.basics.specs.Choice.{pick}
 use Rattle.basics.proofs.Choice.{decide, either}
 use Rattle.sheet.specs.Sheet.{Sheet, valueOf, labelOf}
 use Rattle.leaves_score.specs.declared.SideScan.{SideScan}
 use Rattle.leaves_score.specs.declared.Best.{Best}
 use Rattle.leaves_score.specs.Scan.{nought, noRows, cleared, rowsLeft, bestAfter, countRow, onlyCounted, scored, rowStep, idle}
-use Rattle.leaves_score.specs.Kept.{Live, Owns}
+use Rattle.leaves_score.specs.Kept.{through, Live, Owns}
 use Rattle.leaves_score.proofs.Counts.{total-few, rows-left}
 use Rattle.leaves_score.proofs.Live.{best-left, takes-not, skip-low, step-open, step-closed, open-counted, open-scored, owns-step}
-use Rattle.side_laws.specs.Alone.{through}
 
 -- ---- what a row leaves for the next column
 
