@@ -21,7 +21,7 @@ mod table;
 use std::process::ExitCode;
 
 const USAGE: &str = "run [--sheets N] [--seed S] [--tiny] | ask [--model] [--merged] [--mistakes] [--least] FILE | bytes FILE
-  | table | merging | record PRUNER SEARCHES | speed [search|scan|prepare] [--runs K] [--seed S]";
+  | table | merging | record PROGRAM SEARCHES | speed [search|scan|prepare] [--runs K] [--seed S]";
 
 /// The number after a flag.
 fn number(args: &[String], flag: &str, otherwise: u64) -> Result<u64, String> {
@@ -64,8 +64,8 @@ fn command(args: &[String]) -> Result<bool, String> {
         }
         Some("speed") => speed(&args[1..]),
         Some("record") => match &args[1..] {
-            [pruner, searches] => record::all(pruner.as_ref(), searches.as_ref()),
-            _ => Err("record PRUNER SEARCHES".into()),
+            [program, searches] => record::all(program.as_ref(), searches.as_ref()),
+            _ => Err("record PROGRAM SEARCHES".into()),
         },
         _ => Err(format!("usage: {USAGE}")),
     }

@@ -1,42 +1,39 @@
 //! The original's `support_feasible_splits`, `lower_bound` and `upper_bound` on every list of places up to 8.
-use super::{places, MOST_PLACE};
+use super::digests::{every_list, Tally, MOST_PLACE};
 use contree::algorithms::interval_pruner::IntervalsPruner;
 use contree::algorithms::support_feasible_splits;
 use std::panic::catch_unwind;
 
-/// Looked-up values: 0 to one past the highest place.
+/// Looked-up values, and rows: 0 to one past the highest place.
 const VALUES: usize = MOST_PLACE + 2;
-const MOST_ROWS: usize = MOST_PLACE + 1;
-const MOST_SUPPORT: usize = 5;
+const SUPPORTS: usize = 6;
 
-pub fn feasible() -> Vec<u8> {
-    let mut out = Vec::new();
-    for mask in 0..=u8::MAX {
-        for rows in 0..=MOST_ROWS {
-            for support in 0..=MOST_SUPPORT {
-                let run = support_feasible_splits(&places(mask), rows, support);
-                out.extend([mask, rows as u8, support as u8, run.start as u8, run.end as u8]);
+pub fn every() -> Vec<u8> {
+    every_list("lookups", |list, tally| {
+        for first in 0..=MOST_PLACE {
+            for last in 0..MOST_PLACE {
+                for value in 0..VALUES {
+                    if first == 0 && last < SUPPORTS {
+                        feasible(list, value, last, tally);
+                    }
+                    if first <= list.len() && last < list.len() {
+                        lookups(list, first, last, value, tally);
+                    }
+                }
             }
         }
-    }
-    out
+    })
 }
 
-/// Every first from 0 to the list's length and every last in the list; the original panics on an empty list and on a first past its length.
-pub fn lookups() -> Vec<u8> {
-    let mut out = Vec::new();
-    for mask in 1..=u8::MAX {
-        let places = places(mask);
-        let pruner = IntervalsPruner::new(&places, 0, 1);
-        for first in 0..=places.len() {
-            for last in 0..places.len() {
-                out.extend([mask, first as u8, last as u8]);
-                out.extend((0..VALUES).map(|value| pruner.lower_bound(first, last, value) as u8));
-                out.extend((0..VALUES).map(|value| pruner.upper_bound(first, last, value) as u8));
-            }
-        }
-    }
-    out
+fn feasible(list: &[usize], rows: usize, support: usize, tally: &mut Tally) {
+    let run = support_feasible_splits(list, rows, support);
+    tally.told([run.start as u8, run.end as u8, 0, 0]);
+}
+
+/// From 0 to the list's length and to a cut of the list: on others the original panics.
+fn lookups(list: &[usize], first: usize, last: usize, value: usize, tally: &mut Tally) {
+    let pruner = IntervalsPruner::new(list, 0, 1);
+    tally.told([pruner.lower_bound(first, last, value) as u8, pruner.upper_bound(first, last, value) as u8, 0, 0]);
 }
 
 /// On which ends the original's two lookups panic: told, not recorded.

@@ -1,4 +1,4 @@
--- `pruner_replay::record::places` meets its contract: a place is stored only where there is room, and the place rises to 9. Assumes nothing.
+-- `pruner_replay::code::places` meets its contract: a place is stored only where there is room, and the place rises to 9. Assumes nothing.
 use Prim.Native.Nat.{_-_, _≤_}
 use mathlib.Core.Path.{_≡_, _∙_, sym, ap}
 use mathlib.Core.Logic.{⊎-elim}
@@ -6,8 +6,8 @@ use native.Mathlib.Omega.{arith}
 use lib.ListN.{length, length-set}
 use lib.Seq.{length-take-le}
 use borrow.Author.Needs.{needs}
-use Rattle.pruner_replay.proofs.record.places.Statement.{statement}
-use Rattle.pruner_replay.proofs.record.places.Tie as tie
+use Rattle.pruner_replay.proofs.code.places.Statement.{statement}
+use Rattle.pruner_replay.proofs.code.places.Tie as tie
 
 abbrev Inv-loop : tie.InvT-loop
 Inv-loop list₀ mask rest₀ count₀ place₀ list rest count place = (count ≤ length list) × (length list ≡ length list₀) × (place ≤ 9)
