@@ -13,9 +13,10 @@ use Rattle.sheet.specs.Limits.{mostLabels}
 use Rattle.sheet.specs.Sheet.{Sheet, valueOf, labelOf, rowAt, leastRows}
 use Rattle.side_laws.proofs.Tallies.{rows-alike}
 use Rattle.leaves_score.specs.declared.Two.{Two}
-use Rattle.leaves_score.specs.declared.SideScan.{SideScan}
-use Rattle.leaves_score.specs.Scan.{other, sizeOf, labelled, ownOf, nought, noRows, leafBest, startOf, rowStep, cleared, stepBoth, ended, scanRows, scanColumn, perfect, scanColumns, sideOf, startBoth, scanned, sidesOf}
-use Rattle.leaves_score.specs.Commonest.{mostOf}
+use Rattle.side_scan.specs.declared.SideScan.{SideScan}
+use Rattle.side_scan.specs.OneSide.{nought, noRows, leafBest, cleared, sideOf}
+use Rattle.leaves_score.specs.Scan.{other, sizeOf, labelled, ownOf, startOf, rowStep, stepBoth, ended, scanRows, scanColumn, perfect, scanColumns, startBoth, scanned, sidesOf}
+use Rattle.side_scan.specs.Commonest.{mostOf}
 
 bit-of : {a b : Bool} → a ≡ b → bit a ≡ bit b
 bit-of e = ap bit e

@@ -15,13 +15,14 @@ use Rattle.basics.specs.Choice.{pick}
 use Rattle.basics.specs.Lists.{those}
 use Rattle.basics.proofs.Choice.{decide, neqb}
 use Rattle.sheet.specs.Sheet.{Sheet, valueOf, labelOf, rowAt}
-use Rattle.leaves_score.specs.declared.Best.{Best}
+use Rattle.side_scan.specs.declared.Best.{Best}
 use Rattle.leaves_score.specs.declared.Bests.{Bests}
-use Rattle.leaves_score.specs.declared.Cut.{Cut}
-use Rattle.leaves_score.specs.declared.SideScan.{SideScan}
-use Rattle.leaves_score.specs.Scan.{other, noRows, cleared, raised, scanColumn}
+use Rattle.side_scan.specs.declared.Cut.{Cut}
+use Rattle.side_scan.specs.declared.SideScan.{SideScan}
+use Rattle.side_scan.specs.OneSide.{noRows, cleared, raised}
+use Rattle.leaves_score.specs.Scan.{other, scanColumn}
 use Rattle.leaves_score.specs.Kept.{rowsFrom, through, Live}
-use Rattle.leaves_score.specs.Step.{splitBy, passed, cutOf, atStart}
+use Rattle.side_scan.specs.Step.{splitBy, passed, cutOf, atStart}
 use Rattle.leaves_score.specs.Lists.{goLeft, bothAt, ReadyColumn, Found}
 use Rattle.leaves_score.proofs.Coupled.{both-rows}
 use Rattle.leaves_score.proofs.Rows.{by-two}

@@ -7,7 +7,8 @@ use Rattle.basics.specs.Choice.{pick}
 use Rattle.sheet.specs.Sheet.{Sheet, valueOf, labelOf, rowAt, orderOf}
 use Rattle.sheet.specs.Sound.{Sound}
 use Rattle.leaves_score.specs.declared.Two.{Two}
-use Rattle.leaves_score.specs.Scan.{sizeOf, labelled, ownOf, startOf, cleared, stepBoth, ended, scanRows, scanColumn, perfect, scanColumns, sideOf, startBoth, scanned, sidesOf}
+use Rattle.side_scan.specs.OneSide.{cleared, sideOf}
+use Rattle.leaves_score.specs.Scan.{sizeOf, labelled, ownOf, startOf, stepBoth, ended, scanRows, scanColumn, perfect, scanColumns, startBoth, scanned, sidesOf}
 use Rattle.leaves_score.specs.Lists.{scanOf, Lent, Scannable}
 
 pub accepted : (s : Sheet) (marks : List ℕ) → Sound s → Lent s marks → Scannable (scanOf s) marks

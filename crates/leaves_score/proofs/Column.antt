@@ -15,17 +15,18 @@ use Rattle.basics.proofs.Choice.{order, reach, decide, same-bool, pick-true, pi
 use Rattle.basics.proofs.Lists.{tally-le}
 use Rattle.sheet.specs.Limits.{mostRows}
 use Rattle.sheet.specs.Sheet.{Sheet, valueOf, labelOf}
-use Rattle.leaves_score.specs.declared.Best.{Best}
-use Rattle.leaves_score.specs.declared.Cut.{Cut}
-use Rattle.leaves_score.specs.declared.Verdict.{Verdict}
-use Rattle.leaves_score.specs.declared.SideScan.{SideScan}
-use Rattle.leaves_score.specs.Scan.{nought, noRows, cleared, fallen, quiet, rowsLeft, rightBest, supported, takes, bestAfter, skipAfter, closes, totalOf, raised, countRow, onlyCounted, scored, rowStep}
+use Rattle.side_scan.specs.declared.Best.{Best}
+use Rattle.side_scan.specs.declared.Cut.{Cut}
+use Rattle.side_scan.specs.declared.Verdict.{Verdict}
+use Rattle.side_scan.specs.declared.SideScan.{SideScan}
+use Rattle.side_scan.specs.OneSide.{nought, noRows, cleared, fallen, quiet, rowsLeft, rightBest, supported, takes, bestAfter, skipAfter, closes, totalOf, raised, countRow, onlyCounted, scored}
+use Rattle.leaves_score.specs.Scan.{rowStep}
 use Rattle.leaves_score.specs.Kept.{through, Counts, Open, Live}
-use Rattle.leaves_score.specs.Step.{peaksOf, verdictOf, splitBy, passed, untilAfter, cutOf, Scorable, atStart}
+use Rattle.side_scan.specs.Step.{peaksOf, verdictOf, splitBy, passed, untilAfter, cutOf, Scorable, atStart}
 use Rattle.leaves_score.proofs.Counts.{counts-step}
 use Rattle.leaves_score.proofs.Live.{open-counted, open-scored}
 use Rattle.leaves_score.proofs.Single.{shut, frozen}
-use Rattle.leaves_score.proofs.Steps.{verdict-is, best-is, opened}
+use Rattle.side_scan.proofs.Steps.{verdict-is, best-is, opened}
 
 -- ---- tests
 

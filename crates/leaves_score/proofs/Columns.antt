@@ -16,13 +16,14 @@ use Rattle.basics.proofs.Choice.{by-test, bit-and}
 use Rattle.basics.proofs.Lists.{tally-le, tally-mono, getD-table, length-table}
 use Rattle.sheet.specs.Limits.{mostLabels}
 use Rattle.sheet.specs.Sheet.{Sheet, valueOf, labelOf, rowAt, everyRow}
-use Rattle.leaves_score.specs.declared.SideScan.{SideScan}
-use Rattle.leaves_score.specs.declared.Best.{Best}
+use Rattle.side_scan.specs.declared.SideScan.{SideScan}
+use Rattle.side_scan.specs.declared.Best.{Best}
 use Rattle.leaves_score.specs.declared.Bests.{Bests}
 use Rattle.leaves_score.specs.declared.Two.{Two}
-use Rattle.leaves_score.specs.Scan.{other, sizeOf, labelled, ownOf, cleared, countRow, onlyCounted, scored, stepOf, rowStep, stepBoth, ended, scanRows, scanColumn, perfect, scanColumns, leafLabel, leafScore, sideOf, startBoth, scanned}
+use Rattle.side_scan.specs.OneSide.{cleared, countRow, onlyCounted, scored, stepOf, leafLabel, leafScore, sideOf}
+use Rattle.leaves_score.specs.Scan.{other, sizeOf, labelled, ownOf, rowStep, stepBoth, ended, scanRows, scanColumn, perfect, scanColumns, startBoth, scanned}
 use Rattle.leaves_score.specs.Kept.{rowsFrom, through, Alike, BothAlike, Owns, Live}
-use Rattle.leaves_score.specs.Step.{atStart, Sized}
+use Rattle.side_scan.specs.Step.{atStart, Sized}
 use Rattle.leaves_score.specs.Lists.{goLeft, Numbered, bothAt, ReadyColumn, Found, Scannable}
 use Rattle.leaves_score.proofs.Live.{left-is, right-is, step-any, owns-step, owns-cleared, owns-start, rows-order, begin-live}
 use Rattle.leaves_score.proofs.Coupled.{both-rows as coupled-rows}

@@ -1,6 +1,6 @@
 -- Counting a row moves it from the rows to come to those counted, so each label's sum stays, and the best counts move by at most one.
 -- Assumes nothing.
-use mathlib.Core.Path.{_≡_, refl, sym, _∙_}
+use mathlib.Core.Path.{_≡_, sym, _∙_}
 use Prim.Native.Nat.{ℕ, suc, _+_, _-_, _≤_, _<_}
 use native.Mathlib.Omega.{arith}
 use mathlib.Core.Bool.{Bool}
@@ -15,26 +15,11 @@ use Rattle.basics.proofs.Choice.{decide, neqb, bit-true, bit-false, bit-le}
 use Rattle.basics.proofs.Lists.{tally-le}
 use Rattle.sheet.specs.Limits.{mostLabels}
 use Rattle.sheet.specs.Sheet.{Sheet, labelOf}
-use Rattle.leaves_score.specs.declared.SideScan.{SideScan}
-use Rattle.leaves_score.specs.declared.Best.{Best}
-use Rattle.leaves_score.specs.Commonest.{commonest, mostOf}
-use Rattle.leaves_score.specs.Scan.{noRows, cleared, before, later, rowsLeft, leftBest, rightBest, totalOf, raised, countRow}
+use Rattle.side_scan.specs.declared.SideScan.{SideScan}
+use Rattle.side_scan.specs.declared.Best.{Best}
+use Rattle.side_scan.specs.OneSide.{noRows, cleared, before, later, rowsLeft, leftBest, rightBest, totalOf, raised, countRow}
 use Rattle.leaves_score.specs.Kept.{Counts, Fits}
-use Rattle.leaves_score.proofs.Commonest.{commonest-in, most}
-
--- ---- best counts
-
--- the best count grows by no more than each count may
-pub most-near : (f g : ℕ → ℕ) (n d : ℕ) → 1 ≤ n → ((l : ℕ) → l < n → g l ≤ f l + d) → mostOf g n ≤ mostOf f n + d
-most-near f g n d h k = omega (arith, at, k (commonest g n) (commonest-in g n h), most f n (commonest g n) (commonest-in g n h))
-  where
-    at : mostOf g n ≡ g (commonest g n)
-    at = unfold mostOf in refl
-
--- a bound of every count bounds the best
-pub most-under : (f : ℕ → ℕ) (n d : ℕ) → 1 ≤ n → ((l : ℕ) → l < n → f l ≤ d) → mostOf f n ≤ d
-unfolding mostOf
-most-under f n d h k = k (commonest f n) (commonest-in f n h)
+use Rattle.side_scan.proofs.Commonest.{most-near, most-under}
 
 -- ---- a label's count raised by one
 

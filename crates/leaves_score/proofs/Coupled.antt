@@ -9,7 +9,8 @@ use Rattle.basics.specs.Lists.{those}
 use Rattle.basics.proofs.Choice.{by-test, either, and-left, and-right, or-left, or-right}
 use Rattle.sheet.specs.Sheet.{Sheet, rowAt}
 use Rattle.leaves_score.specs.declared.Two.{Two}
-use Rattle.leaves_score.specs.Scan.{other, cleared, stepBoth, idle, ended, scanRows}
+use Rattle.side_scan.specs.OneSide.{cleared}
+use Rattle.leaves_score.specs.Scan.{other, stepBoth, idle, ended, scanRows}
 use Rattle.leaves_score.specs.Kept.{rowsFrom, through, Alike, Live}
 use Rattle.leaves_score.proofs.Live.{left-is, right-is, live-left, live-right}
 use Rattle.leaves_score.proofs.Single.{stays, runs-at}

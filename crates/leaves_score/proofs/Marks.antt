@@ -12,10 +12,11 @@ use Rattle.basics.proofs.Lists.{table-same}
 use Rattle.sheet.specs.Limits.{mostLabels}
 use Rattle.sheet.specs.Sheet.{Sheet, labelOf, rowAt, everyRow, leastRows}
 use Rattle.leaves_score.specs.declared.Two.{Two}
-use Rattle.leaves_score.specs.declared.SideScan.{SideScan}
-use Rattle.leaves_score.specs.Commonest.{mostOf}
-use Rattle.leaves_score.specs.Scan.{other, sizeOf, labelled, ownOf, leafBest, startOf, rowStep, cleared, stepBoth, ended, scanRows, scanColumn, perfect, scanColumns, sideOf, startBoth, scanned, sidesOf}
-use Rattle.leaves_score.specs.Step.{atStart}
+use Rattle.side_scan.specs.declared.SideScan.{SideScan}
+use Rattle.side_scan.specs.Commonest.{mostOf}
+use Rattle.side_scan.specs.OneSide.{leafBest, cleared, sideOf}
+use Rattle.leaves_score.specs.Scan.{other, sizeOf, labelled, ownOf, startOf, rowStep, stepBoth, ended, scanRows, scanColumn, perfect, scanColumns, startBoth, scanned, sidesOf}
+use Rattle.side_scan.specs.Step.{atStart}
 
 tally-table : (p q : ℕ → Bool) (f : ℕ → ℕ) (n : ℕ) → ((k : ℕ) → k < n → bit (p (f k)) ≡ bit (q (f k))) → tally p (table f n) ≡ tally q (table f n)
 tally-table p q f zero h = refl

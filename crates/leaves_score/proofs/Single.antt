@@ -11,9 +11,10 @@ use lib.Dec.{T, T-not, leb, leb→le}
 use Rattle.basics.specs.Choice.{pick}
 use Rattle.basics.proofs.Choice.{decide, either}
 use Rattle.sheet.specs.Sheet.{Sheet, valueOf, labelOf}
-use Rattle.leaves_score.specs.declared.SideScan.{SideScan}
-use Rattle.leaves_score.specs.declared.Best.{Best}
-use Rattle.leaves_score.specs.Scan.{nought, noRows, cleared, rowsLeft, bestAfter, countRow, onlyCounted, scored, rowStep, idle}
+use Rattle.side_scan.specs.declared.SideScan.{SideScan}
+use Rattle.side_scan.specs.declared.Best.{Best}
+use Rattle.side_scan.specs.OneSide.{nought, noRows, cleared, rowsLeft, bestAfter, countRow, onlyCounted, scored}
+use Rattle.leaves_score.specs.Scan.{rowStep, idle}
 use Rattle.leaves_score.specs.Kept.{through, Live, Owns}
 use Rattle.leaves_score.proofs.Counts.{total-few, rows-left}
 use Rattle.leaves_score.proofs.Live.{best-left, takes-not, skip-low, step-open, step-closed, open-counted, open-scored, owns-step}

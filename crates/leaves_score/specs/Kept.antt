@@ -8,9 +8,10 @@ use lib.Dec.{T, eqb}
 use Rattle.basics.specs.Lists.{tally}
 use Rattle.sheet.specs.Limits.{mostLabels}
 use Rattle.sheet.specs.Sheet.{Sheet, labelOf, rowAt, leastRows}
-use Rattle.leaves_score.specs.declared.SideScan.{SideScan}
+use Rattle.side_scan.specs.declared.SideScan.{SideScan}
 use Rattle.leaves_score.specs.declared.Two.{Two}
-use Rattle.leaves_score.specs.Scan.{sizeOf, ownOf, cleared, totalOf, rowStep}
+use Rattle.side_scan.specs.OneSide.{cleared, totalOf}
+use Rattle.leaves_score.specs.Scan.{sizeOf, ownOf, rowStep}
 
 -- the rows at the n places from i on
 unfoldable pub rowsFrom : Sheet → ℕ → ℕ → ℕ → List ℕ

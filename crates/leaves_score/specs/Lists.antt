@@ -13,12 +13,14 @@ use Rattle.sheet.specs.Sheet.{Sheet, labelOf, rowAt, everyRow, orderOf}
 use Rattle.sheet.specs.Sound.{Limited}
 use Rattle.sheet.specs.declared.Size.{Size}
 use Rattle.leaves_score.specs.declared.Parted.{Parted}
-use Rattle.leaves_score.specs.declared.Best.{Best}
+use Rattle.side_scan.specs.declared.Best.{Best}
+use Rattle.side_scan.specs.declared.SideScan.{SideScan}
 use Rattle.leaves_score.specs.declared.Bests.{Bests}
 use Rattle.leaves_score.specs.declared.Two.{Two}
-use Rattle.leaves_score.specs.Scan.{other, sizeOf, ownOf, cleared, scanColumn}
-use Rattle.leaves_score.specs.Kept.{rowsFrom, Live}
-use Rattle.leaves_score.specs.Step.{atStart}
+use Rattle.side_scan.specs.OneSide.{cleared}
+use Rattle.leaves_score.specs.Scan.{other, sizeOf, ownOf, scanColumn}
+use Rattle.leaves_score.specs.Kept.{rowsFrom, through, Live}
+use Rattle.side_scan.specs.Step.{atStart}
 
 -- the sheet that a scan reads: cuts are no part of it
 abbrev pub sheetOf : Size → List Float → List ℕ → List ℕ → Sheet
@@ -109,3 +111,25 @@ pub record ReadyColumn (s : Sheet) (sides : List ℕ) (c : ℕ) (b : Two) : Type
 pub record Found (s : Sheet) (sides : List ℕ) (c : ℕ) (b : Two) (r : Bests) : Type 0 where
   pub left : r .left ≡ (scanColumn s (goLeft sides) c b) .left .best
   pub right : r .right ≡ (scanColumn s (goLeft sides) c b) .right .best
+
+-- ---- a side by itself
+
+-- the rows of the left side, or of the right one
+abbrev pub mine : Bool → List ℕ → ℕ → Bool
+mine left sides r = pick left (goLeft sides r) (other (goLeft sides) r)
+
+-- what a walk over a side's rows of a column goes by
+pub record ReadySide (s : Sheet) (sides : List ℕ) (c : ℕ) (left : Bool) (t : SideScan) : Type 0 where
+  pub few : s .rows ≤ mostRows
+  pub ordered : c * s .rows + s .rows ≤ length (s .order)
+  pub valued : c * s .rows + s .rows ≤ length (s .values)
+  pub coded : s .rows ≤ length (s .codes)
+  pub in-rows : (i : ℕ) → i < s .rows → rowAt s c i < s .rows
+  pub labelled : (r : ℕ) → r < s .rows → labelOf s r < s .labels
+  pub labels : t .labels ≡ s .labels
+  pub small : t .size ≤ mostRows
+  pub live : Live s (those (mine left sides) (rowsFrom s c (s .rows) 0)) (cleared t)
+
+-- and what it leaves: the side's rows, one after another
+unfoldable pub walked : Sheet → List ℕ → ℕ → Bool → SideScan → SideScan
+walked s sides c left t = through s c (those (mine left sides) (rowsFrom s c (s .rows) 0)) (cleared t)

@@ -7,10 +7,12 @@ use mathlib.Core.List.{List}
 use Rattle.basics.specs.Lists.{those}
 use Rattle.sheet.specs.Sheet.{Sheet, orderOf}
 use Rattle.sheet.specs.Sound.{Sound}
-use Rattle.leaves_score.specs.declared.SideScan.{SideScan}
-use Rattle.leaves_score.specs.Scan.{ownAt, startOf, cleared, later, rightBest, totalOf, leafScore}
+use Rattle.side_scan.specs.declared.SideScan.{SideScan}
+use Rattle.side_scan.specs.OneSide.{ownAt, cleared, later, rightBest, totalOf, leafScore}
+use Rattle.leaves_score.specs.Scan.{startOf}
 use Rattle.leaves_score.specs.Kept.{Owns, Fits}
-use Rattle.leaves_score.proofs.Counts.{most-near, left-few}
+use Rattle.side_scan.proofs.Commonest.{most-near}
+use Rattle.leaves_score.proofs.Counts.{left-few}
 use Rattle.leaves_score.proofs.Live.{owns-start, start-fits}
 use Rattle.side_laws.specs.Alone.{columnAlone, columnsAlone, alone}
 use Rattle.side_laws.specs.First.{cutsFrom, cutsOf, allCuts, firstBest, FirstBest}

@@ -9,9 +9,10 @@ use Rattle.basics.specs.Lists.{those}
 use Rattle.basics.proofs.Choice.{by-test, and-left, and-right}
 use Rattle.sheet.specs.Sheet.{Sheet, orderOf}
 use Rattle.sheet.specs.Sound.{Sound}
-use Rattle.leaves_score.specs.declared.SideScan.{SideScan}
+use Rattle.side_scan.specs.declared.SideScan.{SideScan}
 use Rattle.leaves_score.specs.declared.Two.{Two}
-use Rattle.leaves_score.specs.Scan.{other, startOf, cleared, scanRows, scanColumn, perfect, scanColumns, startBoth, scanned, sidesOf}
+use Rattle.side_scan.specs.OneSide.{cleared}
+use Rattle.leaves_score.specs.Scan.{other, startOf, scanRows, scanColumn, perfect, scanColumns, startBoth, scanned, sidesOf}
 use Rattle.leaves_score.specs.Kept.{through, Alike, Owns, Live}
 use Rattle.leaves_score.proofs.Single.{perfected, owns-through}
 use Rattle.leaves_score.proofs.Coupled.{both-rows}

@@ -13,9 +13,10 @@ use Rattle.basics.specs.Lists.{All, those}
 use Rattle.basics.proofs.Choice.{by-test, decide, either, and-left, and-right, nor-left, pick-true, pick-false}
 use Rattle.sheet.specs.Sheet.{Sheet, valueOf, labelOf, orderOf}
 use Rattle.sheet.specs.Sound.{Sound}
-use Rattle.leaves_score.specs.declared.SideScan.{SideScan}
-use Rattle.leaves_score.specs.declared.Best.{Best}
-use Rattle.leaves_score.specs.Scan.{nought, noRows, sizeOf, ownOf, startOf, cleared, fallen, quiet, rowsLeft, leftBest, rightBest, totalOf, supported, takes, splitAt, bestAfter, skipAfter, closes, countRow, onlyCounted, scored}
+use Rattle.side_scan.specs.declared.SideScan.{SideScan}
+use Rattle.side_scan.specs.declared.Best.{Best}
+use Rattle.side_scan.specs.OneSide.{nought, noRows, cleared, fallen, quiet, rowsLeft, leftBest, rightBest, totalOf, supported, takes, splitAt, bestAfter, skipAfter, closes, countRow, onlyCounted, scored}
+use Rattle.leaves_score.specs.Scan.{sizeOf, ownOf, startOf}
 use Rattle.leaves_score.specs.Kept.{through, Owns, Fits, Open}
 use Rattle.leaves_score.proofs.Counts.{rows-left}
 use Rattle.leaves_score.proofs.Live.{best-left, skip-taken, skip-left, skip-low, step-open, open-counted, open-scored, owns-start, start-live}

@@ -14,8 +14,8 @@ use Rattle.order.specs.Order.{key}
 use Rattle.sheet.specs.Limits.{mostLabels}
 use Rattle.sheet.specs.Sheet.{Sheet, valueOf, labelOf, everyRow, orderOf}
 use Rattle.sheet.specs.Sound.{Sound}
-use Rattle.leaves_score.specs.declared.SideScan.{SideScan}
-use Rattle.leaves_score.specs.Scan.{cleared, raised}
+use Rattle.side_scan.specs.declared.SideScan.{SideScan}
+use Rattle.side_scan.specs.OneSide.{cleared, raised}
 use Rattle.leaves_score.proofs.Counts.{raised-at, none-at}
 use Rattle.side_laws.proofs.Tests.{not-not, bit-and-true, bit-and-false}
 use Rattle.side_laws.proofs.Fair.{keyOf, Sorted, inside, sorted, sorted-those}

@@ -7,7 +7,8 @@ use Rattle.basics.specs.Choice.{pick}
 use Rattle.sheet.specs.Sheet.{Sheet, valueOf, labelOf, rowAt}
 use Rattle.leaves_score.specs.declared.Sides.{Sides}
 use Rattle.leaves_score.specs.declared.Two.{Two}
-use Rattle.leaves_score.specs.Scan.{other, sizeOf, labelled, ownOf, startOf, cleared, stepBoth, ended, scanRows, scanColumn, perfect, scanColumns, sideOf, startBoth, scanned, sidesOf}
+use Rattle.side_scan.specs.OneSide.{cleared, sideOf}
+use Rattle.leaves_score.specs.Scan.{other, sizeOf, labelled, ownOf, startOf, stepBoth, ended, scanRows, scanColumn, perfect, scanColumns, startBoth, scanned, sidesOf}
 use Rattle.leaves_score.proofs.Marks.{sides-alike}
 use Rattle.side_laws.specs.Same.{withCuts, CutsUnread, SameMarks}
 

@@ -7,8 +7,9 @@ use mathlib.Core.Bool.{Bool}
 use mathlib.Core.List.{List, [], _∷_, _++_}
 use Rattle.sheet.specs.Sheet.{Sheet}
 use Rattle.sheet.specs.Sound.{Sound}
-use Rattle.leaves_score.specs.declared.SideScan.{SideScan}
-use Rattle.leaves_score.specs.Scan.{startOf, cleared, rowStep}
+use Rattle.side_scan.specs.declared.SideScan.{SideScan}
+use Rattle.side_scan.specs.OneSide.{cleared}
+use Rattle.leaves_score.specs.Scan.{startOf, rowStep}
 use Rattle.leaves_score.specs.Kept.{through, Owns, Fits, Live}
 use Rattle.leaves_score.proofs.Live.{own-at, live-step, start-live, owns-start, owns-cleared}
 use Rattle.side_laws.specs.Alone.{columnsAlone, AddUp, AddsUp}

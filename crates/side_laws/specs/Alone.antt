@@ -10,9 +10,10 @@ use Rattle.basics.specs.Lists.{tally, those}
 use Rattle.sheet.specs.Sheet.{Sheet, labelOf, orderOf}
 use Rattle.sheet.specs.Sound.{Sound}
 use Rattle.tree.specs.declared.Side.{Side}
-use Rattle.leaves_score.specs.declared.SideScan.{SideScan}
+use Rattle.side_scan.specs.declared.SideScan.{SideScan}
 use Rattle.leaves_score.specs.Kept.{through}
-use Rattle.leaves_score.specs.Scan.{other, sizeOf, labelled, startOf, cleared, before, sideOf, sidesOf}
+use Rattle.side_scan.specs.OneSide.{cleared, before, sideOf}
+use Rattle.leaves_score.specs.Scan.{other, sizeOf, labelled, startOf, sidesOf}
 
 unfoldable pub columnAlone : Sheet → (ℕ → Bool) → ℕ → SideScan → SideScan
 columnAlone s mine c t = through s c (those mine (orderOf s c)) (cleared t)

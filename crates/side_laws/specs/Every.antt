@@ -10,9 +10,10 @@ use Rattle.basics.specs.Choice.{pick}
 use Rattle.basics.specs.Lists.{those}
 use Rattle.sheet.specs.Sheet.{Sheet, valueOf, labelOf, orderOf}
 use Rattle.sheet.specs.Sound.{Sound}
-use Rattle.leaves_score.specs.declared.SideScan.{SideScan}
-use Rattle.leaves_score.specs.declared.Best.{Best}
-use Rattle.leaves_score.specs.Scan.{startOf, rowsLeft, rightBest, supported, splitAt, onlyCounted}
+use Rattle.side_scan.specs.declared.SideScan.{SideScan}
+use Rattle.side_scan.specs.declared.Best.{Best}
+use Rattle.side_scan.specs.OneSide.{rowsLeft, rightBest, supported, splitAt, onlyCounted}
+use Rattle.leaves_score.specs.Scan.{startOf}
 use Rattle.side_laws.specs.Alone.{alone}
 use Rattle.side_laws.specs.First.{firstBest}
 

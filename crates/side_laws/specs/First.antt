@@ -10,9 +10,10 @@ use Rattle.basics.specs.Choice.{pick}
 use Rattle.basics.specs.Lists.{those}
 use Rattle.sheet.specs.Sheet.{Sheet, valueOf, labelOf, orderOf}
 use Rattle.sheet.specs.Sound.{Sound}
-use Rattle.leaves_score.specs.declared.SideScan.{SideScan}
-use Rattle.leaves_score.specs.declared.Best.{Best}
-use Rattle.leaves_score.specs.Scan.{startOf, splitAt, onlyCounted}
+use Rattle.side_scan.specs.declared.SideScan.{SideScan}
+use Rattle.side_scan.specs.declared.Best.{Best}
+use Rattle.side_scan.specs.OneSide.{splitAt, onlyCounted}
+use Rattle.leaves_score.specs.Scan.{startOf}
 use Rattle.side_laws.specs.Alone.{alone}
 
 -- the cuts before the rows of a list, as splits: where the value is another than the previous row's. Each row is only counted.

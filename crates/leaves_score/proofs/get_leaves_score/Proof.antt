@@ -3,7 +3,7 @@ use mathlib.Core.Path.{ap₂, _∙_}
 use Rattle.sheet.specs.Sheet.{Sheet}
 use Rattle.tree.specs.declared.Side.{Side}
 use Rattle.leaves_score.specs.Scan.{other, scanned, sidesOf}
-use Rattle.leaves_score.specs.Step.{Sized}
+use Rattle.side_scan.specs.Step.{Sized}
 use Rattle.leaves_score.specs.Lists.{sheetOf, goLeft}
 use Rattle.leaves_score.proofs.Columns.{Both, both-scanned, both-alike, side-alike, sized}
 use borrow.Author.Needs.{needs}

@@ -7,7 +7,8 @@ use borrow.Author.Needs.{needs}
 use lib.ListN.{getD}
 use Rattle.basics.proofs.Choice.{by-test}
 use Rattle.leaves_score.specs.declared.Parted.{Parted}
-use Rattle.leaves_score.specs.Scan.{other, raised}
+use Rattle.side_scan.specs.OneSide.{raised}
+use Rattle.leaves_score.specs.Scan.{other}
 use Rattle.leaves_score.specs.Lists.{goLeft, sideNumber, partedOf}
 use Rattle.leaves_score.proofs.Rows.{Tallied, none-yet, own-is, size-is, Parting, met, right-few, parts-on}
 use Rattle.leaves_score.proofs.part_rows.Statement.{statement}

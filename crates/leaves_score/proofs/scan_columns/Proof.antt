@@ -8,12 +8,12 @@ use borrow.Author.Needs.{needs}
 use lib.ListN.{getD}
 use lib.Ieee.{Float}
 use Rattle.sheet.specs.Sheet.{Sheet, labelOf, leastRows}
-use Rattle.leaves_score.specs.declared.SideScan.{SideScan}
+use Rattle.side_scan.specs.declared.SideScan.{SideScan}
 use Rattle.sheet.specs.declared.Size.{Size}
 use Rattle.leaves_score.specs.declared.Parted.{Parted}
 use Rattle.leaves_score.specs.Scan.{other, sizeOf, labelled, ownOf, startOf, startBoth, scanned}
 use Rattle.leaves_score.specs.Kept.{BothAlike}
-use Rattle.leaves_score.specs.Step.{leafScan}
+use Rattle.side_scan.specs.Step.{leafScan}
 use Rattle.leaves_score.specs.Lists.{sheetOf, goLeft, Numbered, rowsOnly, partedOf, ReadyColumn, ReadyRows, Scannable}
 use Rattle.leaves_score.proofs.Marks.{starts-alike, scanned-alike}
 use Rattle.leaves_score.proofs.Columns.{Scanning, begins, finished, stops, goes-on, ready-column, same-side}

@@ -13,31 +13,18 @@ use Rattle.basics.specs.Choice.{pick}
 use Rattle.basics.proofs.Choice.{and-left, and-right}
 use Rattle.sheet.specs.Limits.{mostRows}
 use Rattle.sheet.specs.Sheet.{Sheet, valueOf, labelOf, rowAt}
-use Rattle.leaves_score.specs.declared.Best.{Best}
-use Rattle.leaves_score.specs.declared.Cut.{Cut}
-use Rattle.leaves_score.specs.Scan.{raised}
-use Rattle.leaves_score.specs.Step.{peaksOf, splitBy, passed, cutOf, Scorable}
+use Rattle.side_scan.specs.declared.Best.{Best}
+use Rattle.side_scan.specs.declared.Cut.{Cut}
+use Rattle.side_scan.specs.OneSide.{raised}
+use Rattle.side_scan.specs.Step.{peaksOf, splitBy, passed, cutOf, Scorable}
 use Rattle.leaves_score.specs.Lists.{sheetOf}
+use Rattle.leaves_score.proofs.Places.{below, place-in, twice-in, within-list}
 use Rattle.leaves_score.proofs.Rows.{by-two}
-use Rattle.leaves_score.proofs.Steps.{first-in, second-in}
+use Rattle.side_scan.proofs.Steps.{first-in, second-in}
 use Rattle.leaves_score.proofs.Column.{Stands, scorable}
 use Rattle.leaves_score.proofs.Abreast.{blank, began, target, to-come, Abreast, Changed, set-at, unset, here, passes-on, scores-on, over, all-met, opens, leaves}
 use Rattle.leaves_score.proofs.scan_rows.Statement.{statement}
 use Rattle.leaves_score.proofs.scan_rows.Tie as tie
-
--- ---- offsets, by numbers alone
-
-below : (a n m : ℕ) → a + n ≤ m → m < 2 ^ 64 → a < 2 ^ 64
-below a n m h k = omega arith
-
-place-in : (a i n m : ℕ) → i < n → a + n ≤ m → m < 2 ^ 64 → a + i < 2 ^ 64
-place-in a i n m h k l = omega arith
-
-twice-in : (a i n m : ℕ) → i < n → a + n ≤ m → m * 2 < 2 ^ 63 → (a + i) * 2 < 2 ^ 64
-twice-in a i n m h k l = omega arith
-
-within-list : (a i n m : ℕ) → i < n → a + n ≤ m → a + i < m
-within-list a i n m h k = omega arith
 
 took : (b : Bool) (found split best : Best) → b ≡ true → found ≡ split → found ≡ pick b split best
 unfolding pick

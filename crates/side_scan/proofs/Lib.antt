@@ -1,0 +1,5 @@
+pub mod Commonest
+pub mod Running
+pub mod Judged
+pub mod Steps
+pub mod Leaf

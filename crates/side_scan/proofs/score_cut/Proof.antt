@@ -1,0 +1,54 @@
+-- `side_scan::score_cut` meets its contract: what its calls say, one after the other (`Steps.antt`). Assumes nothing.
+use Prim.Native.Nat.{_-_}
+use native.Mathlib.Omega.{arith}
+use borrow.Author.Needs.{needs}
+use Rattle.side_scan.proofs.Steps.{first-in, second-in, skips-less, cut-is}
+use Rattle.side_scan.proofs.score_cut.Statement.{statement}
+use Rattle.side_scan.proofs.score_cut.Tie as tie
+
+find-peaks-requires : tie.Need-find-peaks-requires
+find-peaks-requires c κs = search needs
+
+sub-judge : tie.Need-sub-judge
+sub-judge c = search needs
+
+judge-requires : tie.Need-judge-requires
+judge-requires c κs =
+    let k = c .find-peaks in
+    let a = c .before .args in
+    let h = c .before .pre in
+    omega (
+      arith,
+      first-in (a .own .now) (a .seen .now) (a .labels) (a .counted) (a .size) h (k .result) (k .ensures),
+      second-in (a .own .now) (a .seen .now) (a .labels) (a .counted) (a .size) h (k .result) (k .ensures),
+      h .more,
+      h .small,
+    )
+
+add-until-after : tie.Need-add-until-after
+add-until-after c = search needs
+
+until-after-requires : tie.Need-until-after-requires
+until-after-requires c κs =
+    let a = c .before .before .args in
+    let h = c .before .before .pre in (
+      h .small,
+      λ e. omega (arith, h .more, skips-less (c .before .find-peaks .result) (a .counted) (a .size - a .counted) (a .least) (a .score) 0 (c .judge .result) (c .judge .ensures) e),
+    )
+
+returns : tie.Need-returns
+returns c =
+    let a = c .before .before .before .args in
+    cut-is (a .own .now) (a .seen .now) (a .labels) (a .counted) (a .size) (a .least) (a .score) (c .before .before .find-peaks .result) (c .before .judge .result) (c .until-after .result)
+    (c .before .before .find-peaks .ensures) (c .before .judge .ensures) (c .until-after .ensures)
+
+pub score-cut-spec : {M : Type 1} → statement M
+score-cut-spec =
+    tie.close
+    (tie.spec
+    find-peaks-requires
+    sub-judge
+    judge-requires
+    add-until-after
+    until-after-requires
+    returns)
