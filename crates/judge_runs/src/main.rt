@@ -173,91 +173,27 @@ fn endless_thresholds() {
     run(b"label before threshold", rule(0, endless, fair, leaf(2)));
 }
 
+fn size(rows: usize, columns: usize, labels: usize) -> Size {
+    Size {
+        rows,
+        columns,
+        labels,
+    }
+}
+
 fn bad_sheets() {
     let values = [1.0, 2.0, 3.0, 4.0];
     let large = [1.0, 2.0, 1000000000001.0, 4.0];
     let codes: [u8; 4] = [0, 1, 0, 1];
     let high: [u8; 4] = [0, 1, 2, 2];
-    run_sheet(
-        b"no rows",
-        Size {
-            rows: 0,
-            columns: 1,
-            labels: 2,
-        },
-        &values,
-        &codes,
-    );
-    run_sheet(
-        b"17 columns",
-        Size {
-            rows: 4,
-            columns: 17,
-            labels: 2,
-        },
-        &values,
-        &codes,
-    );
-    run_sheet(
-        b"33 labels",
-        Size {
-            rows: 4,
-            columns: 1,
-            labels: 33,
-        },
-        &values,
-        &codes,
-    );
-    run_sheet(
-        b"values short",
-        Size {
-            rows: 4,
-            columns: 2,
-            labels: 2,
-        },
-        &values,
-        &codes,
-    );
-    run_sheet(
-        b"labels long",
-        Size {
-            rows: 2,
-            columns: 2,
-            labels: 2,
-        },
-        &values,
-        &codes,
-    );
-    run_sheet(
-        b"value too large",
-        Size {
-            rows: 4,
-            columns: 1,
-            labels: 2,
-        },
-        &large,
-        &high,
-    );
-    run_sheet(
-        b"label too high",
-        Size {
-            rows: 4,
-            columns: 1,
-            labels: 2,
-        },
-        &values,
-        &high,
-    );
-    run_sheet(
-        b"sheet fair",
-        Size {
-            rows: 4,
-            columns: 1,
-            labels: 2,
-        },
-        &values,
-        &codes,
-    );
+    run_sheet(b"no rows", size(0, 1, 2), &values, &codes);
+    run_sheet(b"17 columns", size(4, 17, 2), &values, &codes);
+    run_sheet(b"33 labels", size(4, 1, 33), &values, &codes);
+    run_sheet(b"values short", size(4, 2, 2), &values, &codes);
+    run_sheet(b"labels long", size(2, 2, 2), &values, &codes);
+    run_sheet(b"value too large", size(4, 1, 2), &large, &high);
+    run_sheet(b"label too high", size(4, 1, 2), &values, &high);
+    run_sheet(b"sheet fair", size(4, 1, 2), &values, &codes);
 }
 
 fn main() {
