@@ -11,7 +11,7 @@ use contree::data::view::DataView;
 use std::hint::black_box;
 use std::time::Instant;
 
-const ROWS: [usize; 3] = [256, 1_024, 4_096];
+const ROWS: [usize; 6] = [4, 16, 64, 256, 1_024, 4_096];
 const COLUMNS: [usize; 3] = [1, 4, 16];
 const LABELS: [usize; 3] = [2, 8, 32];
 const SUPPORTS: [usize; 2] = [1, 20];
@@ -44,12 +44,13 @@ struct Shape {
 /// One finder's call on one sheet: the seconds it took.
 type Timed<'a> = Box<dyn FnMut() -> f64 + 'a>;
 
+/// Every kind of sheet on which some cut leaves `support` rows on each side.
 fn shapes() -> Vec<Shape> {
     let mut shapes = Vec::new();
     for rows in ROWS {
         for columns in COLUMNS {
             for labels in LABELS {
-                for support in SUPPORTS {
+                for support in SUPPORTS.into_iter().filter(|support| 2 * support <= rows) {
                     shapes.extend([false, true].map(|structured| Shape { rows, columns, labels, support, structured }));
                 }
             }
@@ -134,7 +135,7 @@ fn prepared_table(runs: u64, seed: u64) {
 fn sheet(shape: &Shape, seed: u64) -> Sheet {
     let Shape { rows, columns, labels, support, structured } = *shape;
     let mut draw = Draw::new(seed);
-    let distinct = (VISITS / (rows * columns * columns)).clamp(FEWEST_DISTINCT, rows);
+    let distinct = (VISITS / (rows * columns * columns)).clamp(FEWEST_DISTINCT.min(rows), rows);
     let values: Vec<f64> = (0..rows * columns).map(|_| draw.below(distinct) as f64 / 8.0).collect();
     let middle = distinct as f64 / 16.0;
     let code = |row: usize, draw: &mut Draw| {

@@ -20,8 +20,8 @@ use tree::Side;
 // The left side is number 0, the right side number 1.
 const SIDES: usize = 2;
 
-// On a sheet of at most so many rows a column is walked record by record.
-const FEW_ROWS: usize = 16;
+// On a sheet of at most so many rows a column is walked record by record; on more, copying the records costs more than their rows.
+const FEW_ROWS: usize = 4;
 
 // The two sides of a root split.
 pub struct Sides {
