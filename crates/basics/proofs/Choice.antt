@@ -1,6 +1,6 @@
 -- Tests by cases: what holds in both cases holds of the choice. Assumes nothing.
 use mathlib.Core.Path.{_≡_, refl, subst}
-use Prim.Native.Nat.{ℕ, _≤_, _<_}
+use Prim.Native.Nat.{ℕ, _+_, _≤_, _<_}
 use native.Mathlib.Omega.{arith}
 use native.Mathlib.Decide.{decLe}
 use native.Mathlib.Nat.{lt-of-not-le}
@@ -79,6 +79,18 @@ pub or-right : (a b : Bool) → T b → T (a || b)
 or-right true b t = tt
 or-right false b t = t
 
+pub nand-left : (a b : Bool) → T (not a) → T (not (a && b))
+nand-left true b t = absurd t
+nand-left false b t = tt
+
+pub nand-right : (a b : Bool) → T (not b) → T (not (a && b))
+nand-right true b t = t
+nand-right false b t = tt
+
+pub not-not : (b : Bool) → T b → T (not (not b))
+not-not true t = tt
+not-not false t = absurd t
+
 pub nor-both : (a b : Bool) → T (not a) → T (not b) → T (not (a || b))
 nor-both true b t u = absurd t
 nor-both false b t u = u
@@ -124,6 +136,20 @@ bit-le false = omega arith
 pub bit-and : (a b : Bool) → bit (a && b) ≤ bit a
 bit-and true b = bit-le b
 bit-and false b = omega arith
+
+pub bit-and-true : (a b : Bool) → T a → bit (a && b) ≡ bit b
+bit-and-true true b t = refl
+bit-and-true false b t = absurd t
+
+pub bit-and-false : (a b : Bool) → T (not a) → bit (a && b) ≡ 0
+bit-and-false true b t = absurd t
+bit-and-false false b t = refl
+
+-- a test, by another one
+pub bit-parts : (a b : Bool) → bit a ≡ bit (a && b) + bit (a && not b)
+bit-parts true true = refl
+bit-parts true false = refl
+bit-parts false b = refl
 
 -- ---- what may be missing
 

@@ -2,13 +2,13 @@
 use mathlib.Core.Path.{_≡_, refl, ap, ap₂}
 use Prim.Native.Nat.{ℕ, zero, suc, _+_, _≤_, _<_}
 use native.Mathlib.Omega.{arith}
-use mathlib.Core.Bool.{Bool, true, false, not, _&&_}
+use mathlib.Core.Bool.{Bool, not, _&&_}
 use mathlib.Core.List.{List, [], _∷_, _++_}
 use lib.ListN.{length, getD, take}
 use lib.Dec.{T}
 use Rattle.basics.specs.Choice.{bit}
 use Rattle.basics.specs.Lists.{All, Any, here, there, total, tally, those, table}
-use Rattle.basics.proofs.Choice.{by-test, bit-true, bit-false, bit-le}
+use Rattle.basics.proofs.Choice.{by-test, bit-true, bit-false, bit-le, bit-and-true, bit-and-false}
 
 -- ---- every member, some member
 
@@ -108,19 +108,11 @@ length-those p (x ∷ xs) =
     by-test (λ l. length l ≡ bit (p x) + tally p xs) (p x)
     (λ t. omega (arith, bit-true (p x) t, length-those p xs)) (λ t. omega (arith, bit-false (p x) t, length-those p xs))
 
-and-bit-true : (a b : Bool) → T a → bit (a && b) ≡ bit b
-and-bit-true true b t = refl
-and-bit-true false b t = absurd t
-
-and-bit-false : (a b : Bool) → T (not a) → bit (a && b) ≡ 0
-and-bit-false true b t = absurd t
-and-bit-false false b t = refl
-
 pub tally-those {ℓ} : {A : Type ℓ} (p q : A → Bool) (xs : List A) → tally q (those p xs) ≡ tally (λ x. p x && q x) xs
 tally-those p q [] = refl
 tally-those p q (x ∷ xs) =
     by-test (λ l. tally q l ≡ bit (p x && q x) + tally (λ x. p x && q x) xs) (p x)
-    (λ t. omega (arith, and-bit-true (p x) (q x) t, tally-those p q xs)) (λ t. omega (arith, and-bit-false (p x) (q x) t, tally-those p q xs))
+    (λ t. omega (arith, bit-and-true (p x) (q x) t, tally-those p q xs)) (λ t. omega (arith, bit-and-false (p x) (q x) t, tally-those p q xs))
 
 pub all-those {ℓ} : {A : Type ℓ} (P : A → Type 0) (p : A → Bool) (xs : List A) → All P xs → All P (those p xs)
 all-those P p [] h = tt

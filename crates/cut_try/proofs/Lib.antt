@@ -1,6 +1,5 @@
 -- Laws of a try, for other crates to cite.
 pub mod Lent
 pub mod Marks
-pub mod Alike
 pub mod Try
 pub mod Accepted

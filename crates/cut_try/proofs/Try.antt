@@ -3,7 +3,6 @@
 use mathlib.Core.Path.{_≡_, refl, sym, ap, _∙_, subst}
 use Prim.Native.Nat.{ℕ, zero, suc, _+_, _-_, _*_, _≤_, _<_}
 use native.Mathlib.Omega.{arith}
-use native.Mathlib.Nat.{mul-le-mul-right}
 use mathlib.Core.Bool.{Bool, not}
 use mathlib.Core.List.{List}
 use lib.ListN.{length, getD}
@@ -16,6 +15,7 @@ use Rattle.sheet.specs.declared.Size.{Size}
 use Rattle.sheet.specs.Sheet.{Sheet, valueOf, labelOf, rowAt, valueAt, countOf, placeOf, everyRow}
 use Rattle.sheet.specs.Check.{sheetOf}
 use Rattle.sheet.specs.Sound.{Sound}
+use Rattle.sheet.proofs.Index.{column-in}
 use Rattle.tree.specs.Answer.{sideError}
 use Rattle.leaves_score.specs.Root.{precedingPlace, cutThreshold, markOf, sidesAt, errorsAt}
 use Rattle.leaves_score.specs.Scan.{sidesOf}
@@ -27,7 +27,7 @@ use Rattle.leaves_score.specs.Lists.{scanOf, goLeft, Scannable}
 use Rattle.leaves_score.proofs.Accepted.{accepted, same-sides}
 use Rattle.cut_try.specs.Ready.{Whole, MarkingCut, MarkedTo, placeBefore, Cutting, Trying}
 use Rattle.cut_try.proofs.Lent.{marks-length}
-use Rattle.cut_try.proofs.Alike.{sides-alike}
+use Rattle.leaves_score.proofs.Marks.{sides-alike}
 
 -- ---- the preceding cut
 
@@ -67,22 +67,9 @@ read-place size values order cuts column cut i h k = (omega (arith, h .ordered),
 
 -- ---- a cut of an accepted sheet
 
--- a column's entries lie in the lists
-pub inside : (rows columns column : ℕ) → column < columns → column * rows + rows ≤ columns * rows
-inside rows columns column h = let m : suc column * rows ≤ columns * rows = mul-le-mul-right rows h in omega (arith, m, suc-mul column rows)
-  where
-    suc-mul : (a b : ℕ) → suc a * b ≡ a * b + b
-    suc-mul a b = omega arith
-
 module _ (s : Sheet) (whole : Whole s) (c k : ℕ) (here : c < s .columns) (cut-in : k < countOf s c) where
   abbrev sound : Sound s
   sound = whole .sound
-
-  pub cut-low : 1 ≤ placeOf s c k
-  cut-low = sound .column c here .cuts .place-low k cut-in
-
-  pub cut-high : placeOf s c k < s .rows
-  cut-high = sound .column c here .cuts .place-high k cut-in
 
   -- the marks say what the cut does
   pub marks-tell : (size : Size) (marks : List ℕ) → size .rows ≡ s .rows → MarkedTo size (s .order) c (placeOf s c k) marks (s .rows)
@@ -111,7 +98,7 @@ module _ (size : Size) (values : List Float) (codes order cuts : List ℕ) (colu
   sheet = sheetOf size values codes order cuts (trying .counts)
 
   abbrev entries : column * size .rows + size .rows ≤ size .columns * size .rows
-  entries = inside (size .rows) (size .columns) column (trying .here)
+  entries = column-in (size .rows) (size .columns) column (trying .here)
 
   pub tried-listed : column * size .rows + cut < length cuts
   tried-listed =

@@ -13,7 +13,7 @@ use Rattle.sheet.specs.Sheet.{Sheet, countOf, placeOf, placesOf}
 use Rattle.sheet.specs.Check.{sheetOf}
 use Rattle.cuts.specs.Lookups.{place, Ascending}
 use Rattle.cut_try.specs.Ready.{Whole, PlacedIn}
-use Rattle.cut_try.proofs.Try.{inside}
+use Rattle.sheet.proofs.Index.{column-in}
 
 -- a part of a list, entry by entry
 window : (xs : List ℕ) (base n : ℕ) → base + n ≤ length xs → take n (drop base xs) ≡ table (λ k. getD xs (base + k) 0) n
@@ -61,7 +61,7 @@ placed-in size values codes order cuts counts column whole here =
           omega (
             arith,
             whole .lengths .cuts-all,
-            inside (size .rows) (size .columns) column here,
+            column-in (size .rows) (size .columns) column here,
             whole .sound .column column here .cuts .count-most,
           );
     }

@@ -10,7 +10,7 @@ use lib.Dec.{T, eqb, nleb→lt}
 use lib.Ieee.{Float}
 use Rattle.basics.specs.Choice.{bit}
 use Rattle.basics.specs.Lists.{tally, table}
-use Rattle.basics.proofs.Choice.{by-test, pick-true, pick-false}
+use Rattle.basics.proofs.Choice.{by-test, pick-true, pick-false, bit-true, bit-false, bit-and-true, bit-and-false, and-both, nand-left, nand-right, not-not}
 use Rattle.basics.proofs.Lists.{table-next, tally-append, tally-le, length-table}
 use Rattle.threshold.specs.Threshold.{goesLeft}
 use Rattle.sheet.specs.Limits.{mostRows}
@@ -88,74 +88,42 @@ rows-yes p n k e = omega (arith, rows-more p n)
 rows-no : (p : ℕ → Bool) (n : ℕ) → bit (p n) ≡ 0 → firstRows p n ≡ firstRows p (n + 1)
 rows-no p n e = omega (arith, rows-more p n)
 
-bit-mine : (m : Bool) → T m → bit m ≡ 1
-bit-mine true t = refl
-bit-mine false t = absurd t
-
-bit-other : (m : Bool) → T (not m) → bit m ≡ 0
-bit-other true t = absurd t
-bit-other false t = refl
-
-bit-leaf : (m q : Bool) → T m → bit (m && q) ≡ bit q
-bit-leaf true q t = refl
-bit-leaf false q t = absurd t
-
-bit-off : (m q : Bool) → T (not m) → bit (m && q) ≡ 0
-bit-off true q t = absurd t
-bit-off false q t = refl
-
-both : (m g : Bool) → T m → T g → T (m && g)
-both true g t u = u
-both false g t u = absurd t
-
-off-left : (m g : Bool) → T (not m) → T (not (m && g))
-off-left true g t = absurd t
-off-left false g t = tt
-
-off-right : (m g : Bool) → T (not g) → T (not (m && g))
-off-right true g t = t
-off-right false g t = tt
-
-not-not : (b : Bool) → T b → T (not (not b))
-not-not true t = tt
-not-not false t = absurd t
-
 module _ (s : Sheet) (mine : ℕ → Bool) where
   -- a row that comes to the side
   pub seen-comes : (side : Side) (n : ℕ) → T (mine n) → nextOf s side n (seenOf s mine side n) ≡ seenOf s mine side (n + 1)
   unfolding nextOf seenOf
   seen-comes (Leaf label error) n t =
-      same-seen (rows-yes mine n 1 (bit-mine (mine n) t))
-      (rows-yes (λ r. mine r && mistaken s label r) n (bit (mistaken s label n)) (bit-leaf (mine n) (mistaken s label n) t)) refl
+      same-seen (rows-yes mine n 1 (bit-true (mine n) t))
+      (rows-yes (λ r. mine r && mistaken s label r) n (bit (mistaken s label n)) (bit-and-true (mine n) (mistaken s label n) t)) refl
   seen-comes (Split column threshold left right lost missed) n t =
       let g : Bool = goesLeft (valueOf s column n) threshold in
       by-test (λ x. x ≡ seenOf s mine (Split column threshold left right lost missed) (n + 1)) g
       (λ u.
-      same-seen (rows-yes mine n 1 (bit-mine (mine n) t))
+      same-seen (rows-yes mine n 1 (bit-true (mine n) t))
       (rows-yes (λ r. leftward s column threshold mine r && mistaken s left r) n (bit (mistaken s left n))
-      (bit-leaf (mine n && g) (mistaken s left n) (both (mine n) g t u)))
+      (bit-and-true (mine n && g) (mistaken s left n) (and-both (mine n) g t u)))
       (rows-no (λ r. rightward s column threshold mine r && mistaken s right r) n
-      (bit-off (mine n && not g) (mistaken s right n) (off-right (mine n) (not g) (not-not g u)))))
+      (bit-and-false (mine n && not g) (mistaken s right n) (nand-right (mine n) (not g) (not-not g u)))))
       (λ u.
-      same-seen (rows-yes mine n 1 (bit-mine (mine n) t))
+      same-seen (rows-yes mine n 1 (bit-true (mine n) t))
       (rows-no (λ r. leftward s column threshold mine r && mistaken s left r) n
-      (bit-off (mine n && g) (mistaken s left n) (off-right (mine n) g u)))
+      (bit-and-false (mine n && g) (mistaken s left n) (nand-right (mine n) g u)))
       (rows-yes (λ r. rightward s column threshold mine r && mistaken s right r) n (bit (mistaken s right n))
-      (bit-leaf (mine n && not g) (mistaken s right n) (both (mine n) (not g) t u))))
+      (bit-and-true (mine n && not g) (mistaken s right n) (and-both (mine n) (not g) t u))))
 
   -- a row that goes to the other side
   pub seen-stays : (side : Side) (n : ℕ) → T (not (mine n)) → seenOf s mine side n ≡ seenOf s mine side (n + 1)
   unfolding seenOf
   seen-stays (Leaf label error) n t =
-      same-seen (rows-no mine n (bit-other (mine n) t))
-      (rows-no (λ r. mine r && mistaken s label r) n (bit-off (mine n) (mistaken s label n) t)) refl
+      same-seen (rows-no mine n (bit-false (mine n) t))
+      (rows-no (λ r. mine r && mistaken s label r) n (bit-and-false (mine n) (mistaken s label n) t)) refl
   seen-stays (Split column threshold left right lost missed) n t =
       let g : Bool = goesLeft (valueOf s column n) threshold in
-      same-seen (rows-no mine n (bit-other (mine n) t))
+      same-seen (rows-no mine n (bit-false (mine n) t))
       (rows-no (λ r. leftward s column threshold mine r && mistaken s left r) n
-      (bit-off (mine n && g) (mistaken s left n) (off-left (mine n) g t)))
+      (bit-and-false (mine n && g) (mistaken s left n) (nand-left (mine n) g t)))
       (rows-no (λ r. rightward s column threshold mine r && mistaken s right r) n
-      (bit-off (mine n && not g) (mistaken s right n) (off-left (mine n) (not g) t)))
+      (bit-and-false (mine n && not g) (mistaken s right n) (nand-left (mine n) (not g) t)))
 
   pub seen-none : (side : Side) → mk 0 0 0 ≡ seenOf s mine side 0
   unfolding seenOf
@@ -198,7 +166,7 @@ pub sum-most : (side : Side) (seen : Seen) (n : ℕ) (wrong : Wrong) → wrong �
     → wrongSum wrong ≤ 2 * mostRows
 sum-most side seen n wrong e w h = omega (arith, wrong-most side seen n w, ap wrongSum e)
 
--- ---- both sides
+-- ---- and-both sides
 
 module _ (s : Sheet) (t : Tree) where
   abbrev first : ℕ → Seen

@@ -3,7 +3,6 @@
 use Prim.Native.Nat.{ℕ, zero, suc, _+_, _-_, _*_, _≤_, _<_}
 use native.Mathlib.Omega.{arith}
 use native.Mathlib.Numerals.{add-one}
-use native.Mathlib.Nat.{suc-mul, mul-le-mul-right}
 use mathlib.Core.Path.{_≡_, refl, sym, ap, ap₂, subst, _∙_}
 use mathlib.Core.Bool.{Bool, true, false, _&&_}
 use mathlib.Core.List.{List, [], _∷_}
@@ -16,6 +15,7 @@ use Rattle.basics.proofs.Choice.{by-test, bit-and}
 use Rattle.basics.proofs.Lists.{tally-le, tally-mono, getD-table, length-table}
 use Rattle.sheet.specs.Limits.{mostLabels}
 use Rattle.sheet.specs.Sheet.{Sheet, valueOf, labelOf, rowAt, everyRow}
+use Rattle.sheet.proofs.Index.{column-in}
 use Rattle.side_scan.specs.declared.SideScan.{SideScan}
 use Rattle.side_scan.specs.declared.Best.{Best}
 use Rattle.leaves_score.specs.declared.Bests.{Bests}
@@ -233,7 +233,7 @@ both-alike s support mark a b h o =
 -- ---- the loop
 
 place-in : (c columns rows n : ℕ) → c < columns → columns * rows ≤ n → c * rows + rows ≤ n
-place-in c columns rows n h k = omega (arith, suc-mul c rows, mul-le-mul-right {m = suc c} {n = columns} rows h)
+place-in c columns rows n h k = omega (arith, column-in rows columns c h)
 
 module _ (s : Sheet) (support : ℕ) (mark : ℕ → Bool) where
   pub record Scanning (c : ℕ) (b : Two) : Type 0 where

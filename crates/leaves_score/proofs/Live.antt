@@ -11,7 +11,7 @@ use lib.Ieee.{Float, eq}
 use Rattle.basics.specs.Choice.{pick}
 use Rattle.basics.specs.Lists.{tally, those, table}
 use Rattle.basics.proofs.Choice.{by-test, decide, and-right, nor-right, pick-true, pick-false}
-use Rattle.basics.proofs.Lists.{length-those, tally-those, getD-table}
+use Rattle.basics.proofs.Lists.{length-those, tally-those, getD-table, table-same}
 use Rattle.sheet.specs.Limits.{mostLabels}
 use Rattle.sheet.specs.Sheet.{Sheet, valueOf, labelOf, rowAt, everyRow, orderOf}
 use Rattle.sheet.specs.Sound.{Limited, Sound}
@@ -146,15 +146,11 @@ module _ (s : Sheet) (mark : ℕ → Bool) (c r : ℕ) (b : Two) where
 
 -- ---- a column's start
 
-pub table-same : {A : Type 0} (f g : ℕ → A) (n : ℕ) → ((k : ℕ) → f k ≡ g k) → table f n ≡ table g n
-table-same f g zero h = refl
-table-same f g (suc n) h = ap (λ x. x ∷ table (λ k. f (suc k)) n) (h 0) ∙ ap (λ xs. g 0 ∷ xs) (table-same (λ k. f (suc k)) (λ k. g (suc k)) n (λ k. h (suc k)))
-
 rows-table : (s : Sheet) (c n i : ℕ) → rowsFrom s c n i ≡ table (λ k. rowAt s c (i + k)) n
 unfolding rowsFrom
 rows-table s c zero i = refl
 rows-table s c (suc n) i =
-    ap (λ xs. rowAt s c i ∷ xs) (rows-table s c n (suc i) ∙ table-same (λ k. rowAt s c (suc i + k)) (λ k. rowAt s c (i + suc k)) n (λ k. ap (rowAt s c) (shift k)))
+    ap (λ xs. rowAt s c i ∷ xs) (rows-table s c n (suc i) ∙ table-same (λ k. rowAt s c (suc i + k)) (λ k. rowAt s c (i + suc k)) n (λ k _. ap (rowAt s c) (shift k)))
     ∙ ap (λ x. rowAt s c x ∷ table (λ k. rowAt s c (i + suc k)) n) none
   where
     shift : (k : ℕ) → suc i + k ≡ i + suc k
@@ -166,7 +162,7 @@ rows-table s c (suc n) i =
 -- the rows from place 0 on are the column's order
 pub rows-order : (s : Sheet) (c : ℕ) → rowsFrom s c (s .rows) 0 ≡ orderOf s c
 unfolding orderOf
-rows-order s c = rows-table s c (s .rows) 0 ∙ table-same (λ k. rowAt s c (0 + k)) (rowAt s c) (s .rows) (λ k. ap (rowAt s c) (plain k))
+rows-order s c = rows-table s c (s .rows) 0 ∙ table-same (λ k. rowAt s c (0 + k)) (rowAt s c) (s .rows) (λ k _. ap (rowAt s c) (plain k))
   where
     plain : (k : ℕ) → 0 + k ≡ k
     plain k = omega arith

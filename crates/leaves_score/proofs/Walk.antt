@@ -8,7 +8,7 @@ use mathlib.Core.Bool.{Bool, true, false, not}
 use mathlib.Core.List.{List, _∷_}
 use lib.Dec.{T, eqb}
 use Rattle.basics.specs.Choice.{pick}
-use Rattle.basics.specs.Lists.{tally, those}
+use Rattle.basics.specs.Lists.{those}
 use Rattle.basics.proofs.Lists.{tally-le}
 use Rattle.sheet.specs.Limits.{mostRows}
 use Rattle.sheet.specs.Sheet.{Sheet, valueOf, labelOf, rowAt}
@@ -16,7 +16,7 @@ use Rattle.side_scan.specs.declared.SideScan.{SideScan}
 use Rattle.side_scan.specs.OneSide.{cleared, countRow, onlyCounted, scored, stepOf}
 use Rattle.side_scan.specs.Step.{Ready, Steppable}
 use Rattle.leaves_score.specs.declared.Two.{Two}
-use Rattle.leaves_score.specs.Scan.{other, rowStep, scanColumn}
+use Rattle.leaves_score.specs.Scan.{rowStep, scanColumn}
 use Rattle.leaves_score.specs.Kept.{rowsFrom, through, BothAlike, Fits, Live}
 use Rattle.leaves_score.specs.Lists.{goLeft, mine, ReadyColumn, ReadySide, walked}
 use Rattle.leaves_score.proofs.Counts.{later-is}

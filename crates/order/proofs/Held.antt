@@ -106,6 +106,3 @@ module _ (f : Format) (x y : Float) (X : T (finite x)) (Y : T (finite y)) (i : T
 
   pub eq-rank : eq x y ≡ eqb (rank f x) (rank f y)
   eq-rank = eq-held f x y (held f x X i) (held f y Y j)
-
-  pub le-rank : le x y ≡ leb (rank f x) (rank f y)
-  le-rank = le-or x y ∙ ap₂ (λ (a b : Bool). a || b) lt-rank eq-rank ∙ lt-or-eq (rank f x) (rank f y)

@@ -132,7 +132,7 @@ module _ (s : Sheet) (c : ℕ) where
         next : (k d : ℕ) → suc (k + suc d) ≡ k + suc (suc d)
         next k d = omega arith
 
-    rising : (k j : ℕ) → k < j → j < countOf s c → placeOf s c k < placeOf s c j
+    pub rising : (k j : ℕ) → k < j → j < countOf s c → placeOf s c k < placeOf s c j
     rising k j h g =
         let d : ℕ = j - suc k in
         let e : k + suc d ≡ j = omega arith in

@@ -11,7 +11,7 @@ use lib.Dec.{T, T-not, not-T, leb, eqb, leb→le, le→leb, nleb→lt, eqb-refl}
 use lib.Ieee.{lt}
 use borrow.Author.Tests.{lt-leb}
 use Rattle.basics.specs.Walk.{walk}
-use Rattle.basics.proofs.Choice.{by-test, by-ltb, either, order, reach, and-left, and-right, and-both}
+use Rattle.basics.proofs.Choice.{by-test, by-ltb, either, order, reach, and-left, and-right, and-both, nand-left, nand-right, nleb}
 use Rattle.threshold.specs.Threshold.{within}
 use Rattle.sheet.specs.declared.Terms.{Terms}
 use Rattle.sheet.specs.declared.Checked.{Checked}
@@ -81,14 +81,6 @@ fails : (a b : Bool) → T (not (a && b)) → T (not a) ⊎ T (not b)
 fails true b t = inr t
 fails false b t = inl tt
 
-fails-left : (a b : Bool) → T (not a) → T (not (a && b))
-fails-left true b t = absurd t
-fails-left false b t = tt
-
-fails-right : (a b : Bool) → T (not b) → T (not (a && b))
-fails-right true b t = t
-fails-right false b t = tt
-
 module _ (t : Terms) where
   abbrev a1 : Bool
   a1 = leb (t .support) mostSupport
@@ -102,17 +94,14 @@ module _ (t : Terms) where
   abbrev a4 : Bool
   a4 = leb (t .bound) mostError
 
-  above : (n most : ℕ) → most < n → T (not (leb n most))
-  above n most h = untruth (lt-leb n most h)
-
   terms-to : (p : ℕ) → TermAbove t p → T (not (termsHold t))
   unfolding termsHold
   terms-to p x =
       ⊎-elim
-      (λ h. fails-left (a1 && a2 && a3) a4 (fails-left (a1 && a2) a3 (fails-left a1 a2 (above (t .support) mostSupport h))))
-      (⊎-elim (λ h. fails-left (a1 && a2 && a3) a4 (fails-left (a1 && a2) a3 (fails-right a1 a2 (above (t .gap) mostError h))))
-      (⊎-elim (λ h. fails-left (a1 && a2 && a3) a4 (fails-right (a1 && a2) a3 (above (t .error) mostError h)))
-      (λ h. fails-right (a1 && a2 && a3) a4 (above (t .bound) mostError h))))
+      (λ h. nand-left (a1 && a2 && a3) a4 (nand-left (a1 && a2) a3 (nand-left a1 a2 (nleb (t .support) mostSupport h))))
+      (⊎-elim (λ h. nand-left (a1 && a2 && a3) a4 (nand-left (a1 && a2) a3 (nand-right a1 a2 (nleb (t .gap) mostError h))))
+      (⊎-elim (λ h. nand-left (a1 && a2 && a3) a4 (nand-right (a1 && a2) a3 (nleb (t .error) mostError h)))
+      (λ h. nand-right (a1 && a2 && a3) a4 (nleb (t .bound) mostError h))))
       (x .1)
 
   terms-from : T (not (termsHold t)) → TermAbove t 0

@@ -9,14 +9,11 @@ use lib.Dec.{T, not-T, eqb, eqb→eq, eqb-refl}
 use Rattle.basics.specs.Choice.{pick}
 use Rattle.basics.specs.Lists.{those, table}
 use Rattle.basics.proofs.Choice.{and-left, and-right, and-both}
+use Rattle.basics.proofs.Lists.{table-next}
 use Rattle.sheet.specs.Check.{same}
 
-pub table-snoc {ℓ} : {A : Type ℓ} (f : ℕ → A) (n : ℕ) → table f (suc n) ≡ table f n ++ (f n ∷ [])
-table-snoc f zero = refl
-table-snoc f (suc n) = ap (λ l. f 0 ∷ l) (table-snoc (λ k. f (suc k)) n)
-
 pub table-more {ℓ} : {A : Type ℓ} (f : ℕ → A) (n : ℕ) → table f (n + 1) ≡ table f n ++ (f n ∷ [])
-table-more f n = rw add-one (table-snoc f n)
+table-more f n = rw add-one (table-next f n)
 
 after {ℓ} : {A : Type ℓ} (b : Bool) (x : A) (r q w : List A) → r ≡ q ++ w → pick b (x ∷ r) r ≡ pick b (x ∷ q) q ++ w
 unfolding pick

@@ -7,7 +7,7 @@ use mathlib.Core.List.{List}
 use lib.ListN.{length, getD, set, drop, replicate, length-append, length-drop, length-replicate, getD-replicate, List·getD-eq-default, List·getD-append}
 use lib.Seq.{getD-set-same, getD-set-other}
 use lib.Dec.{T, T-not, not-T, leb, ltb, eqb, leb→le, le→leb, ltb→lt, lt→ltb, eqb→eq, eqb-refl}
-use Rattle.basics.proofs.Choice.{order, reach}
+use Rattle.basics.proofs.Choice.{order, reach, nor-both}
 use Rattle.basics.specs.Walk.{walk}
 use Rattle.basics.proofs.Walk.{walked}
 use Rattle.sheet.specs.Sheet.{Sheet, rowAt}
@@ -91,13 +91,9 @@ module _ (s : Sheet) (c i mark : ℕ) (marks : List ℕ) (m : Marks s c i mark m
   pub good : row < s .rows → (getD marks row 0 ≡ mark → ⊥) → T (not (badOrder s c i))
   unfolding badOrder
   good h f =
-      neither (leb (s .rows) (rowAt s c i)) (met s c i)
+      nor-both (leb (s .rows) (rowAt s c i)) (met s c i)
       (not-T (leb (s .rows) (rowAt s c i)) (λ t. absurd (omega (arith, leb→le (s .rows) (rowAt s c i) t))))
       (met-no s c i (λ j l g. f (ap (λ (x : ℕ). getD marks x 0) (e ∙ sym g) ∙ m .here j l)))
-    where
-      neither : (a b : Bool) → T (not a) → T (not b) → T (not (a || b))
-      neither true b t u = absurd t
-      neither false b t u = u
 
   pub marks-more : row < length marks → Marks s c (i + 1) mark (set marks row mark)
   marks-more l =

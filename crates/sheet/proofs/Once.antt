@@ -9,9 +9,8 @@ use lib.ListN.{length}
 use lib.Dec.{T, not-T, eqb, eqb→eq, eqb-refl}
 use Rattle.basics.specs.Choice.{bit}
 use Rattle.basics.specs.Lists.{All, tally, table}
-use Rattle.basics.proofs.Choice.{bit-true, bit-false, reach}
-use Rattle.basics.proofs.Lists.{tally-append, tally-parts, tally-same, tally-none, length-table}
-use Rattle.sheet.proofs.Lists.{table-snoc}
+use Rattle.basics.proofs.Choice.{bit-true, bit-false, reach, bit-parts, nand-right}
+use Rattle.basics.proofs.Lists.{tally-append, tally-parts, tally-same, tally-none, length-table, table-next}
 
 -- what holds of each entry holds of all members
 all-table {ℓ} : {A : Type ℓ} (P : A → Type 0) (f : ℕ → A) (n : ℕ) → ((i : ℕ) → i < n → P (f i)) → All P (table f n)
@@ -30,12 +29,7 @@ abbrev only : (ℕ → Bool) → ℕ → ℕ → Bool
 only p x y = p y && eqb y x
 
 split : (p : ℕ → Bool) (x y : ℕ) → bit (p y) ≡ bit (only p x y) + bit (but p x y)
-split p x y = go (p y) (eqb y x)
-  where
-    go : (a b : Bool) → bit a ≡ bit (a && b) + bit (a && not b)
-    go true true = omega arith
-    go true false = omega arith
-    go false b = omega arith
+split p x y = bit-parts (p y) (eqb y x)
 
 same-only : (p : ℕ → Bool) (x : ℕ) → bit (only p x x) ≡ bit (p x)
 same-only p x = go (p x) (eqb x x) (eqb-refl x)
@@ -45,11 +39,7 @@ same-only p x = go (p x) (eqb x x) (eqb-refl x)
     go false b t = refl
 
 none-only : (p : ℕ → Bool) (x y : ℕ) → (y ≡ x → ⊥) → T (not (only p x y))
-none-only p x y f = go (p y) (eqb y x) (not-T (eqb y x) (λ t. f (eqb→eq y x t)))
-  where
-    go : (a b : Bool) → T (not b) → T (not (a && b))
-    go true b t = t
-    go false b t = tt
+none-only p x y f = nand-right (p y) (eqb y x) (not-T (eqb y x) (λ t. f (eqb→eq y x t)))
 
 all-but : (p : ℕ → Bool) (x y : ℕ) → (y ≡ x → ⊥) → bit (p y) ≡ bit (but p x y)
 all-but p x y f = omega (arith, split p x y, bit-false (only p x y) (none-only p x y f))
@@ -59,7 +49,7 @@ only-once : (p : ℕ → Bool) (x n : ℕ) → x < n → tally (only p x) (rows 
 only-once p x zero h = absurd (omega arith)
 only-once p x (suc n) h =
     let e : tally (only p x) (rows (suc n)) ≡ tally (only p x) (rows n) + (bit (only p x n) + 0) =
-    ap (λ l. tally (only p x) l) (table-snoc (λ r. r) n) ∙ tally-append (only p x) (rows n) (n ∷ []) in
+    ap (λ l. tally (only p x) l) (table-next (λ r. r) n) ∙ tally-append (only p x) (rows n) (n ∷ []) in
     reach x n (omega arith)
     (λ q.
     let z : tally (only p x) (rows n) ≡ 0 =

@@ -2,12 +2,12 @@
 use mathlib.Core.Path.{_≡_, refl, sym, ap, _∙_}
 use Prim.Native.Nat.{ℕ, _+_, _-_, _*_, _≤_, _<_}
 use native.Mathlib.Omega.{arith}
-use mathlib.Core.Bool.{Bool, true, false, not, _&&_}
+use mathlib.Core.Bool.{true, false, not}
 use mathlib.Core.List.{List}
 use lib.ListN.{length, getD}
 use lib.Dec.{T, leb, le→leb}
 use lib.Ieee.{Float, nan, lt}
-use Rattle.basics.proofs.Choice.{and-both}
+use Rattle.basics.proofs.Choice.{and-both, nand-right}
 use Rattle.sheet.specs.declared.Size.{Size}
 use Rattle.sheet.specs.Sheet.{Sheet, valueOf, rowAt, valueAt, isCut}
 use Rattle.sheet.specs.Check.{falls}
@@ -24,10 +24,6 @@ value-ready {size} {values} {order} l c i h g =
       omega (arith, room k (length order) (l .order-all)),
       omega (arith, room k (length values) (l .values-all), l .in-rows c i h g),
     )
-
-second : (a b : Bool) → T (not b) → T (not (a && b))
-second true b t = t
-second false b t = tt
 
 module _ (s : Sheet) (c i : ℕ) where
   -- what it gives
@@ -48,7 +44,7 @@ module _ (s : Sheet) (c i : ℕ) where
 
     pub falls-no : lt v w ≡ false → T (not (falls s c i))
     unfolding falls
-    falls-no e = second (leb 1 i) (lt (valueAt s c i) (valueAt s c (i - 1))) (untruth (sym below ∙ e))
+    falls-no e = nand-right (leb 1 i) (lt (valueAt s c i) (valueAt s c (i - 1))) (untruth (sym below ∙ e))
 
     pub cut-yes : 1 ≤ i → lt w v ≡ true → T (isCut s c i)
     unfolding isCut
@@ -56,7 +52,7 @@ module _ (s : Sheet) (c i : ℕ) where
 
     pub cut-no : lt w v ≡ false → T (not (isCut s c i))
     unfolding isCut
-    cut-no e = second (leb 1 i) (lt (valueAt s c (i - 1)) (valueAt s c i)) (untruth (sym above ∙ e))
+    cut-no e = nand-right (leb 1 i) (lt (valueAt s c (i - 1)) (valueAt s c i)) (untruth (sym above ∙ e))
 
 -- the first place has no predecessor
 pub falls-first : (s : Sheet) (c : ℕ) → T (not (falls s c 0))

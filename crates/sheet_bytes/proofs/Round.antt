@@ -3,16 +3,16 @@ use mathlib.Core.Path.{_≡_, sym, ap, _∙_, subst}
 use Prim.Native.Nat.{ℕ, suc, _+_, _-_, _*_, _/_, _%_, _≤_, _<_}
 use native.Mathlib.Omega.{arith}
 use native.Mathlib.Nat.{mul-le-mul-right, add-zero, div-add-mod'}
-use mathlib.Core.Bool.{Bool, true, false, not, _&&_, _||_}
+use mathlib.Core.Bool.{Bool, true, not, _&&_, _||_}
 use mathlib.Core.List.{List}
 use lib.ListN.{length, getD}
 use lib.Seq.{ext-getD}
-use lib.Dec.{T, ltb, leb, eqb, not-T, ltb→lt, leb→le, nltb→le}
+use lib.Dec.{T, ltb, leb, eqb, not-T, leb→le, nltb→le}
 use lib.Ieee.{Float, nan, binary64, ofBits, toBits}
 use lib.Ieee.Bits.{ofBits-toBits, toBits-lt}
 use borrow.Author.Tests.{eq-eqb}
 use Rattle.basics.specs.Lists.{table}
-use Rattle.basics.proofs.Choice.{nor-left, nor-right}
+use Rattle.basics.proofs.Choice.{nor-left, nor-right, nor-both, nltb, not-not}
 use Rattle.basics.proofs.Lists.{getD-table, length-table}
 use Rattle.sheet.specs.Limits.{mostSupport, mostError}
 use Rattle.threshold.specs.Threshold.{within}
@@ -26,19 +26,6 @@ use Rattle.sheet_bytes.proofs.Numbers.{in-rows, in-columns}
 use Rattle.sheet_bytes.proofs.Stages.{rows-inside, columns-inside, labels-inside, accepts}
 use Rattle.sheet_bytes.proofs.Turns.{number-back}
 use Rattle.sheet_bytes.proofs.Places.{past-header, all-long, in-row, in-cell}
-
--- ---- small things
-
-nor-both : (a b : Bool) → T (not a) → T (not b) → T (not (a || b))
-nor-both true b t u = absurd t
-nor-both false b t u = u
-
-twice : (b : Bool) → T b → T (not (not b))
-twice true t = tt
-twice false t = absurd t
-
-not-below : (a b : ℕ) → b ≤ a → T (not (ltb a b))
-not-below a b h = not-T (ltb a b) (λ t. omega (arith, ltb→lt a b t))
 
 -- ---- the header
 
@@ -132,16 +119,16 @@ module _ (h : Head) (values : List Float) (codes : List ℕ) (w : Within h value
   encoded-accepted =
       record {
         head = head-back;
-        head-good = nor-both (ltb (length bytes) headSize) (not (marked headMark bytes 0)) (not-below (length bytes) headSize (omega (arith, (all-long h values codes), past-header (h .columns) (h .rows)))) tt;
+        head-good = nor-both (ltb (length bytes) headSize) (not (marked headMark bytes 0)) (nltb (length bytes) headSize (omega (arith, (all-long h values codes), past-header (h .columns) (h .rows)))) tt;
         size-good = w .size-good;
         not-large = w .not-large;
         rows-good = λ row a.
             nor-both (ltb (length bytes) (startOf (h .columns) (suc row))) (not (marked rowMark bytes (startOf (h .columns) row)))
-            (not-below (length bytes) (startOf (h .columns) (suc row)) (short-row row a))
-            (twice (marked rowMark bytes (startOf (h .columns) row)) (subst T (sym (row-marked row a)) tt));
-        no-more = not-below (startOf (h .columns) (h .rows)) (length bytes) (omega (arith, (all-long h values codes)));
+            (nltb (length bytes) (startOf (h .columns) (suc row)) (short-row row a))
+            (not-not (marked rowMark bytes (startOf (h .columns) row)) (subst T (sym (row-marked row a)) tt));
+        no-more = nltb (startOf (h .columns) (h .rows)) (length bytes) (omega (arith, (all-long h values codes)));
         terms-good = w .terms-good;
-        values-good = λ index a. twice (within (valueOf bytes h index)) (subst (λ (x : Float). T (within x)) (sym (value-back index a)) (w .measured index a .limited));
+        values-good = λ index a. not-not (within (valueOf bytes h index)) (subst (λ (x : Float). T (within x)) (sym (value-back index a)) (w .measured index a .limited));
         codes-good = λ row a. not-T (leb (h .labels) (codeOf bytes h row)) (λ t. omega (arith, leb→le (h .labels) (codeOf bytes h row) t, code-back row a, w .coded row a));
       }
 

@@ -16,6 +16,7 @@ use Rattle.threshold.specs.Laws.{Measured}
 use Rattle.threshold.proofs.Law.{measured-comparable}
 use Rattle.sheet.specs.Sheet.{Sheet, rowAt, valueAt, isCut, countOf, placeOf, everyRow, orderOf}
 use Rattle.sheet.specs.Sound.{Sound}
+use Rattle.sheet.proofs.CutsExact.{rising as places-rise}
 use Rattle.leaves_score.specs.Scan.{other, sizeOf}
 use Rattle.leaves_score.specs.Root.{precedingPlace, cutThreshold, markOf}
 use Rattle.side_laws.specs.Root.{AtCut, AtCuts, Ascends}
@@ -37,22 +38,8 @@ module _ (s : Sheet) (sound : Sound s) (c : ℕ) (here : c < s .columns) where
 
   -- ---- places
 
-  pub ascends-from : (i d : ℕ) → i + suc d < countOf s c → placeOf s c i < placeOf s c (i + suc d)
-  ascends-from i zero h = subst (λ (x : ℕ). placeOf s c i < placeOf s c x) plain (sound .column c here .cuts .ascend i (omega arith))
-    where
-      plain : suc i ≡ i + suc 0
-      plain = omega arith
-  ascends-from i (suc d) h =
-      omega (arith, ascends-from i d (omega arith), subst (λ (x : ℕ). placeOf s c (i + suc d) < placeOf s c x) plain (sound .column c here .cuts .ascend (i + suc d) (omega arith)))
-    where
-      plain : suc (i + suc d) ≡ i + suc (suc d)
-      plain = omega arith
-
   pub ascending : (i j : ℕ) → i < j → j < countOf s c → placeOf s c i < placeOf s c j
-  ascending i j h k = subst (λ (x : ℕ). placeOf s c i < placeOf s c x) plain (ascends-from i (j - suc i) (omega arith))
-    where
-      plain : i + suc (j - suc i) ≡ j
-      plain = omega arith
+  ascending = places-rise s c (sound .column c here .cuts)
 
   below : (i j : ℕ) → i < countOf s c → j < countOf s c → placeOf s c i < placeOf s c j → i < j
   below i j h k l =

@@ -10,7 +10,7 @@ use lib.Ieee.{eq}
 use lib.Dec.{T, T-not, not-T, leb, ltb, eqb, leb→le, ltb→lt, eqb→eq}
 use Rattle.basics.specs.Choice.{pick}
 use Rattle.basics.specs.Lists.{All, those}
-use Rattle.basics.proofs.Choice.{by-test, decide, either, and-left, and-right, nor-left, pick-true, pick-false}
+use Rattle.basics.proofs.Choice.{by-test, decide, either, and-left, and-right, nor-left, pick-true, pick-false, not-not, nand-left}
 use Rattle.sheet.specs.Sheet.{Sheet, valueOf, labelOf, orderOf}
 use Rattle.sheet.specs.Sound.{Sound}
 use Rattle.side_scan.specs.declared.SideScan.{SideScan}
@@ -23,7 +23,7 @@ use Rattle.leaves_score.proofs.Live.{best-left, skip-taken, skip-left, skip-low
 use Rattle.side_laws.specs.Alone.{columnAlone, columnsAlone, alone}
 use Rattle.side_laws.specs.First.{better, firstBest}
 use Rattle.side_laws.specs.Every.{pureFrom, offersFrom, offersOf, allOffers, Offered}
-use Rattle.side_laws.proofs.Tests.{not-not, and-off, pick-and, pick-and-true, pick-same}
+use Rattle.side_laws.proofs.Tests.{pick-and, pick-and-true, pick-same}
 use Rattle.leaves_score.proofs.Single.{shut}
 use Rattle.side_laws.proofs.Decouple.{owns-column}
 use Rattle.side_laws.proofs.Best.{bare, starts, better-low, first-low, first-append, split-score, next, next-fits, next-total, next-left, total-pure}
@@ -122,8 +122,8 @@ module _ (s : Sheet) (c : ℕ) (b0 : Best) where
         ap (firstBest (t .best)) (offers-step r rs t)
         ∙ either (t .started && eq (t .previous) (valueOf s c r)) (ltb 0 (fallen (t .skip))) q
         (λ z. ap (firstBest (t .best))
-        (pick-false (offered r t) _ _ (and-off (starts t (valueOf s c r)) (supported t) (repeats (t .started) (eq (t .previous) (valueOf s c r)) z))
-        ∙ pick-false (pureFrom t (valueOf s c r)) _ _ (and-off (not (t .started && eq (t .previous) (valueOf s c r))) _ (not-not (t .started && eq (t .previous) (valueOf s c r)) z))))
+        (pick-false (offered r t) _ _ (nand-left (starts t (valueOf s c r)) (supported t) (repeats (t .started) (eq (t .previous) (valueOf s c r)) z))
+        ∙ pick-false (pureFrom t (valueOf s c r)) _ _ (nand-left (not (t .started && eq (t .previous) (valueOf s c r))) _ (not-not (t .started && eq (t .previous) (valueOf s c r)) z))))
         (λ z. let w : totalOf t ≤ t .best .score = omega (arith, h .hope (omega (arith, ltb→lt 0 (fallen (t .skip)) z)), ltb→lt 0 (fallen (t .skip)) z) in
         pick-move (offered r t) (t .best) (splitAt t c (valueOf s c r)) (on r rs t)
         ∙ ap (λ x. firstBest x (on r rs t))

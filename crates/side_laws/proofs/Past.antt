@@ -10,6 +10,7 @@ use lib.Ieee.{Float}
 use lib.Dec.{T, not-T, leb, eqb, leb→le, le→leb}
 use Rattle.basics.specs.Lists.{All, tally, those}
 use Rattle.basics.proofs.Lists.{all-map, all-those, tally-those}
+use Rattle.basics.proofs.Choice.{not-not, bit-and-true, bit-and-false}
 use Rattle.order.specs.Order.{key}
 use Rattle.sheet.specs.Limits.{mostLabels}
 use Rattle.sheet.specs.Sheet.{Sheet, valueOf, labelOf, everyRow, orderOf}
@@ -17,7 +18,6 @@ use Rattle.sheet.specs.Sound.{Sound}
 use Rattle.side_scan.specs.declared.SideScan.{SideScan}
 use Rattle.side_scan.specs.OneSide.{cleared, raised}
 use Rattle.leaves_score.proofs.Counts.{raised-at, none-at}
-use Rattle.side_laws.proofs.Tests.{not-not, bit-and-true, bit-and-false}
 use Rattle.side_laws.proofs.Fair.{keyOf, Sorted, inside, sorted, sorted-those}
 
 -- ---- a test that divides two lists

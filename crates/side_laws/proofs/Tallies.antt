@@ -8,6 +8,7 @@ use lib.ListN.{length}
 use Rattle.basics.specs.Choice.{bit}
 use Rattle.basics.specs.Lists.{All, tally}
 use Rattle.basics.proofs.Lists.{tally-parts}
+use Rattle.basics.proofs.Choice.{bit-parts}
 use Rattle.sheet.specs.Sheet.{Sheet, everyRow}
 pub use Rattle.leaves_score.proofs.Marks.{rows-alike}
 use Rattle.side_laws.proofs.Fair.{all-table}
@@ -37,9 +38,4 @@ rows-shift s p q u v h =
 -- the rows of a set, by a question
 pub both-parts : (s : Sheet) (mine q : ℕ → Bool)
     → tally (λ r. mine r && q r) (everyRow s) + tally (λ r. mine r && not (q r)) (everyRow s) ≡ tally mine (everyRow s)
-both-parts s mine q = sym (tally-parts (λ r. mine r && q r) (λ r. mine r && not (q r)) mine (λ r. cut (mine r) (q r)) (everyRow s))
-  where
-    cut : (a b : Bool) → bit a ≡ bit (a && b) + bit (a && not b)
-    cut true true = refl
-    cut true false = refl
-    cut false b = refl
+both-parts s mine q = sym (tally-parts (λ r. mine r && q r) (λ r. mine r && not (q r)) mine (λ r. bit-parts (mine r) (q r)) (everyRow s))

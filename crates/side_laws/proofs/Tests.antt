@@ -6,17 +6,9 @@ use mathlib.Core.Bool.{Bool, true, false, not, _&&_}
 use lib.Dec.{T}
 use Rattle.basics.specs.Choice.{pick, bit}
 
-pub not-not : (b : Bool) → T b → T (not (not b))
-not-not true y = tt
-not-not false y = y
-
 pub not-not→ : (b : Bool) → T (not (not b)) → T b
 not-not→ true y = tt
 not-not→ false y = y
-
-pub and-off : (a b : Bool) → T (not a) → T (not (a && b))
-and-off true b t = absurd t
-and-off false b t = tt
 
 -- ---- choices
 
@@ -35,14 +27,6 @@ pick-same true x y e = e
 pick-same false x y e = refl
 
 -- ---- bits
-
-pub bit-and-true : (a b : Bool) → T a → bit (a && b) ≡ bit b
-bit-and-true true b t = refl
-bit-and-true false b t = absurd t
-
-pub bit-and-false : (a b : Bool) → T (not a) → bit (a && b) ≡ 0
-bit-and-false true b t = absurd t
-bit-and-false false b t = refl
 
 -- a test that passes less often fails more often
 pub bit-not : (a b : Bool) → bit a ≤ bit b → bit (not b) ≤ bit (not a)

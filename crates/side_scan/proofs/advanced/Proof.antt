@@ -10,15 +10,15 @@ use mathlib.Core.Bool.{true}
 use lib.Ieee.{Float, binary64, fits}
 use mir.Syntax.{named, w64, tyUnit}
 use mir.Val.{Val, WT, hasTy, vunit, vint, vfloat, vptr}
-use base.Logic.{SProp, ent, sep, snd∗, exE, id⊢}
-use base.Fml.{GName, Lft, Share, ftrue, fsep, flft, flent, fat}
+use base.Logic.{SProp, ent, sep, id⊢}
+use base.Fml.{GName, ftrue, fsep, flft, flent, fat}
 use prog.Memory.{Memory}
 use prog.Routine.{Routine}
 use prog.Wp.{Heap, Calls, Loops, WpFn, Tables}
 use ghost.Atoms.{Atoms, sem}
 use contract.Monad.{Fun, fact}
 use contract.Running.{givenOf, tables, tablesOf}
-use types.Kit.{Given, ‵, raw, some, later, _⊛_, _$_, _∵_, !, qed, by, move, keep, drop, use1, use2, use3, split, join, pick, fpick, fpack, fsplit, fjoin, feqL, suffices, frame, await, done}
+use types.Kit.{Given, ‵, raw, some, later, _⊛_, _$_, _∵_, !, qed, by, move, keep, use1, use2, use3, split, join, pick, fpick, fpack, fsplit, fjoin, feqL, suffices, frame, await, done}
 use types.Run.{look, init, forget, stop, from, load, addr, of-opd, and-then, no-more, assigns, land, returns, enter, alloc1, alloc0, params1, pass1, pass0, free1, free0}
 use types.SemTy.{Body}
 use types.Tokens.{lft-new, lft-end}
