@@ -3,13 +3,18 @@ ghost use mathlib.Core.Path.{_≡_};
 ghost use Prim.Native.Nat.{_-_, _^_, _≤_, _<_, max};
 ghost use lib.ListN.{length};
 ghost use Rattle.basics.specs.Walk.{walk};
-ghost use Rattle.cuts.specs.Lookups.{place, Ascending, above, endOf, lowerBoundOf, upperBoundOf};
+ghost use Rattle.cuts.specs.Lookups.{place, Ascending, Sought, above, endOf, lowerBoundOf, upperBoundOf};
 ghost use Rattle.cuts.specs.Feasible.{feasibleOf};
 
 // A run of cut numbers, from `first` up to and without `end`; none where the two are equal.
 pub struct Run {
     pub first: usize,
     pub end: usize,
+}
+
+// One column's cuts, borrowed: it serves the two lookups.
+pub struct CutReader<'a> {
+    pub places: &'a [u16],
 }
 
 fn wide(place: u16) -> usize
@@ -58,9 +63,8 @@ fn end_of(cuts: &[u16], first: usize, last: usize) -> usize
 }
 
 // The first cut from `first` to `last` that is placed at `value` or above, or one past the end if none is.
-pub fn lower_bound(cuts: &[u16], first: usize, last: usize, value: usize) -> usize
-    ensures inside { λ r. ⌜ (first ≤ r) × (r ≤ max first (endOf (now (cuts .entry)) first last)) ⌝ }
-    ensures found { λ r. ⌜ (Ascending (now (cuts .entry)) → r ≡ lowerBoundOf (now (cuts .entry)) first last value) ⌝ }
+fn sought_at(cuts: &[u16], first: usize, last: usize, value: usize) -> usize
+    ensures { λ r. ⌜ Sought (now (cuts .entry)) first last (lowerBoundOf (now (cuts .entry)) first last value) r ⌝ }
 {
     // Every cut is placed at 0 or above, and what is placed at a higher value or above is placed above the number before it.
     if value == 0 {
@@ -72,12 +76,40 @@ pub fn lower_bound(cuts: &[u16], first: usize, last: usize, value: usize) -> usi
 }
 
 // The first cut from `first` to `last` that is placed above `value`, or one past the end if none is.
-pub fn upper_bound(cuts: &[u16], first: usize, last: usize, value: usize) -> usize
-    ensures inside { λ r. ⌜ (first ≤ r) × (r ≤ max first (endOf (now (cuts .entry)) first last)) ⌝ }
-    ensures found { λ r. ⌜ (Ascending (now (cuts .entry)) → r ≡ upperBoundOf (now (cuts .entry)) first last value) ⌝ }
+fn sought_above(cuts: &[u16], first: usize, last: usize, value: usize) -> usize
+    ensures { λ r. ⌜ Sought (now (cuts .entry)) first last (upperBoundOf (now (cuts .entry)) first last value) r ⌝ }
 {
     let end = end_of(cuts, first, last);
     first_above(cuts, first, end, value)
+}
+
+impl<'a> CutReader<'a> {
+    pub fn lower_bound(self, first: usize, last: usize, value: usize) -> usize
+        ensures { λ r.
+            ⌜ Sought (now (self .entry .places)) first last (lowerBoundOf (now (self .entry .places)) first last value) r ⌝ }
+    {
+        sought_at(self.places, first, last, value)
+    }
+
+    pub fn upper_bound(self, first: usize, last: usize, value: usize) -> usize
+        ensures { λ r.
+            ⌜ Sought (now (self .entry .places)) first last (upperBoundOf (now (self .entry .places)) first last value) r ⌝ }
+    {
+        sought_above(self.places, first, last, value)
+    }
+}
+
+// The lookups for callers that have a plain slice: a function with a reader in its hands wants a proof by hand of its own.
+pub fn lower_bound(places: &[u16], first: usize, last: usize, value: usize) -> usize
+    ensures { λ r. ⌜ Sought (now (places .entry)) first last (lowerBoundOf (now (places .entry)) first last value) r ⌝ }
+{
+    CutReader { places }.lower_bound(first, last, value)
+}
+
+pub fn upper_bound(places: &[u16], first: usize, last: usize, value: usize) -> usize
+    ensures { λ r. ⌜ Sought (now (places .entry)) first last (upperBoundOf (now (places .entry)) first last value) r ⌝ }
+{
+    CutReader { places }.upper_bound(first, last, value)
 }
 
 // The fewest rows that a side may hold.

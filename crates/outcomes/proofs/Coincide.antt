@@ -2,7 +2,7 @@
 use mathlib.Core.Path.{sym, _∙_}
 use Rattle.prepare.proofs.Soundness.{determined}
 use Rattle.rule_finder.proofs.Laws.{outcomes-coincide}
-use Rattle.outcomes.specs.Outcomes.{ThresholdBetween, GoesLeft, InRange, SentLeft, LeftOfCut, FirstBadValue, FirstBadLabel, SizeHolds, Check, Prepare, PlaceAt, LowerBound, UpperBound, FeasibleSplits, AddResult, SubintervalPruning, IntervalShrinking, NeighbourhoodPruning, Push, Pop, GetLeavesScore, Search, Judge, ReadSheet, WriteAnswer, BitsOf, RunText, ScanCut, FinderPrepare, FinderCheck, FinderSearch, FinderScan}
+use Rattle.outcomes.specs.Outcomes.{ThresholdBetween, GoesLeft, InRange, SentLeft, LeftOfCut, FirstBadValue, FirstBadLabel, SizeHolds, Check, Prepare, PlaceAt, ReaderLowerBound, ReaderUpperBound, LowerBound, UpperBound, FeasibleSplits, AddResult, SubintervalPruning, IntervalShrinking, NeighbourhoodPruning, Push, Pop, GetLeavesScore, Search, Judge, ReadSheet, WriteAnswer, BitsOf, RunText, ScanCut, FinderPrepare, FinderCheck, FinderSearch, FinderScan}
 
 pub threshold-between : ThresholdBetween
 threshold-between lower upper a b p q = p ∙ sym q
@@ -36,6 +36,12 @@ prepare = determined
 
 pub place-at : PlaceAt
 place-at cuts k a b p q = p ∙ sym q
+
+pub reader-lower-bound : ReaderLowerBound
+reader-lower-bound reader first last value ok a b p q = p ∙ sym q
+
+pub reader-upper-bound : ReaderUpperBound
+reader-upper-bound reader first last value ok a b p q = p ∙ sym q
 
 pub lower-bound : LowerBound
 lower-bound cuts first last value ok a b p q = p ∙ sym q

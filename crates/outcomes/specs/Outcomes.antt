@@ -6,6 +6,7 @@ use mathlib.Core.Bool.{Bool}
 use mathlib.Core.List.{List}
 use lib.ListN.{length, getD}
 use lib.Ieee.{Float, binary64, toBits}
+use denote.Ref.{now}
 use Rattle.basics.specs.Walk.{walk}
 use Rattle.threshold.specs.Threshold.{thresholdOf, goesLeft, within}
 use Rattle.parting.specs.Column.{leftOf, leftOfCut}
@@ -13,6 +14,7 @@ use Rattle.sheet.specs.declared.Terms.{Terms}
 use Rattle.sheet.specs.declared.Checked.{Checked}
 use Rattle.sheet.specs.Sheet.{Sheet}
 use Rattle.sheet.specs.Check.{badValue, badLabel, sizeHolds, checkOf, scratchAfter}
+use Rattle.cuts.specs.declared.CutReader.{CutReader}
 use Rattle.cuts.specs.declared.Run.{Run}
 use Rattle.cuts.specs.Lookups.{Ascending, place, lowerBoundOf, upperBoundOf}
 use Rattle.cuts.specs.Feasible.{feasibleOf}
@@ -88,6 +90,16 @@ Prepare = Determined
 
 abbrev pub PlaceAt : Type 0
 PlaceAt = (cuts : List ℕ) (k : ℕ) → One ℕ (place cuts k)
+
+abbrev pub ReaderLowerBound : Type 0
+ReaderLowerBound =
+    (reader : CutReader) (first last value : ℕ)
+    → Ascending (now (reader .places)) → One ℕ (lowerBoundOf (now (reader .places)) first last value)
+
+abbrev pub ReaderUpperBound : Type 0
+ReaderUpperBound =
+    (reader : CutReader) (first last value : ℕ)
+    → Ascending (now (reader .places)) → One ℕ (upperBoundOf (now (reader .places)) first last value)
 
 abbrev pub LowerBound : Type 0
 LowerBound = (cuts : List ℕ) (first last value : ℕ) → Ascending cuts → One ℕ (lowerBoundOf cuts first last value)

@@ -1,51 +1,21 @@
--- `cuts::lower_bound` meets its contract. At 0 the first cut passes, if there is one; at any other value the first cut placed there or above is the
--- first one above the number before. Assumes nothing.
-use borrow.Author.Needs.{needs}
-use mathlib.Core.Path.{_≡_, sym, ap, _∙_}
-use Prim.Native.Nat.{ℕ, _-_, _<_}
-use native.Mathlib.Omega.{arith}
-use mathlib.Core.Bool.{Bool}
-use mathlib.Core.List.{List}
-use lib.Dec.{le→leb}
-use Rattle.basics.specs.Walk.{walk}
-use Rattle.cuts.specs.Lookups.{place, atLeast, above, endOf, soughtFrom, lowerBoundOf}
-use Rattle.cuts.proofs.Lookups.{end-high, walk-stays, above-before}
-use Rattle.cuts.proofs.lower_bound.Statement.{statement}
-use Rattle.cuts.proofs.lower_bound.Tie as tie
+-- `cuts::lower_bound` meets its contract: it asks a reader of its slice (proofs/Wrapping.antt).
+use contract.Running.{givenOf, tables, tablesOf}
+use denote.Triple.Spec.{tripleOf}
+use denote.Triple.Table.{entered, cited}
+use Rattle.cuts.specs.Lookups.{lowerBoundOf}
+use Rattle.cuts.proofs.Served.{OfReader}
+use Rattle.cuts.proofs.Wrapping.{meets}
+use Rattle.cuts.proofs.CutReader.lower_bound.Symbol as lookup
+use Rattle.cuts.proofs.CutReader.lower_bound.Met as lookup-thm
+use Rattle.cuts.proofs.lower_bound.Key.{name as #plain}
+use Rattle.cuts.proofs.lower_bound as plain
+use Rattle.cuts.proofs.lower_bound.Statement as stated
+use Rattle.cuts.proofs.lower_bound.Code as code
 
-module _ (places : List ℕ) (first last value : ℕ) where
-  at-zero : value ≡ 0 → first ≡ lowerBoundOf places first last value
-  unfolding lowerBoundOf soughtFrom
-  at-zero e =
-      sym (walk-stays (atLeast places value) (endOf places first last - first) first (le→leb value (place places first) (omega arith)))
-
-  same : (end : ℕ) → end ≡ endOf places first last → 0 < value
-      → walk (above places (value - 1)) (end - first) first ≡ lowerBoundOf places first last value
-  unfolding lowerBoundOf soughtFrom
-  same end e h =
-      ap (λ (n : ℕ). walk (above places (value - 1)) (n - first) first) e ∙
-      ap (λ (ok : ℕ → Bool). walk ok (endOf places first last - first) first) (above-before places value h)
-
-returns : tie.Need-returns
-returns c = ((omega arith, omega arith), λ up. at-zero _ _ _ _ (c .if1 .taken))
-
-sub-below : tie.Need-sub-below
-sub-below c = search needs
-
-end-of-requires : tie.Need-end-of-requires
-end-of-requires c κs = search needs
-
-first-above-requires : tie.Need-first-above-requires
-first-above-requires c κs =
-    let a = c .before .before .before .args in
-    omega (arith, c .end-of .ensures, end-high (a .cuts .now) (a .first) (a .last))
-
-returns-2 : tie.Need-returns-2
-returns-2 c =
-    let e = c .before .end-of .ensures in
-    let f = c .first-above .ensures in
-    ((f .0 .0, omega (arith, f .0 .1, e)), λ up. f .1 up ∙ same _ _ _ _ _ e (omega arith))
-
-pub lower-bound-spec : {M : Type 1} → statement M
-lower-bound-spec =
-    tie.close (tie.spec returns sub-below end-of-requires first-above-requires returns-2)
+pub lower-bound-spec : {M : Type 1} → stated.statement M
+unfolding code.routine tablesOf
+lower-bound-spec 𝓤 H 𝓜 𝓖 𝓡 =
+    entered 𝓤 H (tripleOf 𝓤 H (𝓖 .A) plain.signature (plain.spec 𝓤 H (𝓖 .A) (𝓜 .mem) (𝓡 .run)))
+    (tables 𝓤 H 𝓜 𝓡 code.env .C) (tables 𝓤 H 𝓜 𝓡 code.env .Λ) #plain code.function (code.unfolded 𝓤 H 𝓜 𝓡)
+    (meets 𝓤 H (𝓖 .A) (givenOf 𝓤 H 𝓜 𝓖) lowerBoundOf lookup.name (tablesOf 𝓤 H 𝓜 (tables 𝓤 H 𝓜 𝓡 code.env))
+    (cited 𝓤 H (OfReader 𝓤 H (𝓖 .A) lowerBoundOf) 𝓜 𝓡 code.env lookup.name lookup.routine code.calls-cuts·CutReader·lower-bound (lookup-thm.met 𝓤 H 𝓜 𝓖 𝓡)))

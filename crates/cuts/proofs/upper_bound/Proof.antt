@@ -1,33 +1,21 @@
--- `cuts::upper_bound` meets its contract: `first_above` up to the end that the definition has. Assumes nothing.
-use borrow.Author.Needs.{needs}
-use mathlib.Core.Path.{_≡_, ap, _∙_}
-use Prim.Native.Nat.{ℕ, _-_}
-use native.Mathlib.Omega.{arith}
-use mathlib.Core.List.{List}
-use Rattle.basics.specs.Walk.{walk}
-use Rattle.cuts.specs.Lookups.{above, endOf, soughtFrom, upperBoundOf}
-use Rattle.cuts.proofs.Lookups.{end-high}
-use Rattle.cuts.proofs.upper_bound.Statement.{statement}
-use Rattle.cuts.proofs.upper_bound.Tie as tie
+-- `cuts::upper_bound` meets its contract: it asks a reader of its slice (proofs/Wrapping.antt).
+use contract.Running.{givenOf, tables, tablesOf}
+use denote.Triple.Spec.{tripleOf}
+use denote.Triple.Table.{entered, cited}
+use Rattle.cuts.specs.Lookups.{upperBoundOf}
+use Rattle.cuts.proofs.Served.{OfReader}
+use Rattle.cuts.proofs.Wrapping.{meets}
+use Rattle.cuts.proofs.CutReader.upper_bound.Symbol as lookup
+use Rattle.cuts.proofs.CutReader.upper_bound.Met as lookup-thm
+use Rattle.cuts.proofs.upper_bound.Key.{name as #plain}
+use Rattle.cuts.proofs.upper_bound as plain
+use Rattle.cuts.proofs.upper_bound.Statement as stated
+use Rattle.cuts.proofs.upper_bound.Code as code
 
-end-of-requires : tie.Need-end-of-requires
-end-of-requires c κs = search needs
-
-first-above-requires : tie.Need-first-above-requires
-first-above-requires c κs =
-    let a = c .before .before .args in
-    omega (arith, c .end-of .ensures, end-high (a .cuts .now) (a .first) (a .last))
-
-same : (places : List ℕ) (first last value end : ℕ) → end ≡ endOf places first last
-    → walk (above places value) (end - first) first ≡ upperBoundOf places first last value
-unfolding upperBoundOf soughtFrom
-same places first last value end e = ap (λ (n : ℕ). walk (above places value) (n - first) first) e
-
-returns : tie.Need-returns
-returns c =
-    let e = c .before .end-of .ensures in
-    let f = c .first-above .ensures in
-    ((f .0 .0, omega (arith, f .0 .1, e)), λ up. f .1 up ∙ same _ _ _ _ _ e)
-
-pub upper-bound-spec : {M : Type 1} → statement M
-upper-bound-spec = tie.close (tie.spec end-of-requires first-above-requires returns)
+pub upper-bound-spec : {M : Type 1} → stated.statement M
+unfolding code.routine tablesOf
+upper-bound-spec 𝓤 H 𝓜 𝓖 𝓡 =
+    entered 𝓤 H (tripleOf 𝓤 H (𝓖 .A) plain.signature (plain.spec 𝓤 H (𝓖 .A) (𝓜 .mem) (𝓡 .run)))
+    (tables 𝓤 H 𝓜 𝓡 code.env .C) (tables 𝓤 H 𝓜 𝓡 code.env .Λ) #plain code.function (code.unfolded 𝓤 H 𝓜 𝓡)
+    (meets 𝓤 H (𝓖 .A) (givenOf 𝓤 H 𝓜 𝓖) upperBoundOf lookup.name (tablesOf 𝓤 H 𝓜 (tables 𝓤 H 𝓜 𝓡 code.env))
+    (cited 𝓤 H (OfReader 𝓤 H (𝓖 .A) upperBoundOf) 𝓜 𝓡 code.env lookup.name lookup.routine code.calls-cuts·CutReader·upper-bound (lookup-thm.met 𝓤 H 𝓜 𝓖 𝓡)))
