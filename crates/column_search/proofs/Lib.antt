@@ -1,5 +1,4 @@
 -- Laws of the search of one column, for other crates to cite.
-pub mod Lookups
 pub mod Steps
 pub mod Kept
 pub mod Count

@@ -11,6 +11,7 @@ use Rattle.basics.specs.Lists.{All, Any, here, there}
 use Rattle.basics.proofs.Choice.{by-test, by-leb, by-ltb, order, reach, and-right}
 use Rattle.basics.proofs.Lists.{any-left, any-right}
 use Rattle.cuts.specs.Lookups.{atLeast, above, firstFrom, soughtFrom}
+use Rattle.cuts.proofs.Lookups.{first-low, first-le, first-at, sought-low, sought-at, end-past}
 use Rattle.interval_pruner.specs.declared.Tried.{Tried}
 use Rattle.interval_pruner.specs.declared.Tried.the-variants.{Nothing, Cut}
 use Rattle.interval_pruner.specs.declared.Bound.{Bound}
@@ -21,7 +22,6 @@ use Rattle.interval_pruner.specs.Pruner.{past, short, sumOf, heldLeft, heldRigh
 use Rattle.column_search.specs.Search.{State, limit, zerosOf, middle, part, upperPart, lowerPart, queued, tryCut, dropped, turnOn, turn, turns, start, columnRun}
 use Rattle.column_search.specs.Laws.{Inside, Feasible, RunOf, IfCut, Metric, Optimal, count}
 use Rattle.column_search.specs.Loop.{Seen, Waiting, Kept}
-use Rattle.column_search.proofs.Lookups.{firstFrom-ge, firstFrom-le, firstFrom-at, soughtFrom-ge, soughtFrom-at, endOf-gt}
 use Rattle.column_search.proofs.Steps.{past-ge, startAfter-ge, shrunkIn, newParts, turn-cases}
 use Rattle.column_search.proofs.Kept.{kept-try, kept-turn, kept-start}
 use Rattle.column_search.proofs.Count.{ends}
@@ -92,7 +92,7 @@ module _ (c : Column) (bound first last : ℕ) (fair : Feasible c first last) (m
     startAfter-keeps i (Cut l) a g f h =
         let v : ℕ = placeOf c l + (sumOf c l - b) + 1 in
         by-leb (λ x. x ≤ k) b (sumOf c l)
-        (λ s. firstFrom-le (atLeast (c .places) v) (c .places) a k h
+        (λ s. first-le (atLeast (c .places) v) (c .places) a k h
         (le→leb v (placeOf c k) (near-right l (g .1 .from) (omega arith) s)))
         (λ _. h)
 
@@ -124,8 +124,8 @@ module _ (c : Column) (bound first last : ℕ) (fair : Feasible c first last) (m
         (λ n. within-keeps i a (min e to) h
         (omega (
           arith,
-          above-keeps x to far (omega (arith, firstFrom-ge (above (c .places) x) (c .places) a))
-              (λ q. firstFrom-at (above (c .places) x) (c .places) a (omega (arith, fair .listed))),
+          above-keeps x to far (omega (arith, first-low (above (c .places) x) (c .places) a))
+              (λ q. first-at (above (c .places) x) (c .places) a (omega (arith, fair .listed))),
         ))))
         (λ _. within-keeps i a e h l)
 
@@ -161,7 +161,7 @@ module _ (c : Column) (bound first last : ℕ) (fair : Feasible c first last) (m
             let d : ℕ = errorOf c m - b + c .gap in
             let v : ℕ = placeOf c m + d + 1 in
             by-test (λ x. x ≤ k) (c .small && ltb 0 d)
-            (λ _. firstFrom-le (atLeast (c .places) v) (c .places) (past (zerosOf c tried .left) (suc m)) k
+            (λ _. first-le (atLeast (c .places) v) (c .places) (past (zerosOf c tried .left) (suc m)) k
             (past-keeps (zerosOf c tried .left) (suc m) left-mark h)
             (le→leb v (placeOf c k) (omega (arith, near-right m here-from h (omega arith)))))
             (λ _. h)
@@ -169,9 +169,9 @@ module _ (c : Column) (bound first last : ℕ) (fair : Feasible c first last) (m
         sought-keeps : (x a e : ℕ) → placeOf c k ≤ x → first ≤ a → k ≤ e → k ≤ soughtFrom (above (c .places) x) (c .places) a e
         sought-keeps x a e h f g =
             above-keeps x (soughtFrom (above (c .places) x) (c .places) a e) h
-            (omega (arith, soughtFrom-ge (above (c .places) x) (c .places) a e))
-            (λ q. soughtFrom-at (above (c .places) x) (c .places) a e
-            (omega (arith, endOf-gt (c .places) a e k g (omega (arith, fair .listed)))))
+            (omega (arith, sought-low (above (c .places) x) (c .places) a e))
+            (λ q. sought-at (above (c .places) x) (c .places) a e
+            (omega (arith, end-past (c .places) a e k g (omega (arith, fair .listed)))))
 
         lower-keeps : (a : ℕ) → first ≤ a → a ≤ k → k < m → k ≤ lowerTo c (zerosOf c tried) (errorOf c m - b + c .gap) m a
         unfolding lowerTo lowerNear

@@ -10,6 +10,7 @@ use Rattle.basics.specs.Lists.{All, total}
 use Rattle.basics.proofs.Choice.{by-test, by-leb, by-ltb, reach, neqb}
 use Rattle.basics.proofs.Lists.{all-append, total-append}
 use Rattle.cuts.specs.Lookups.{atLeast, above, firstFrom}
+use Rattle.cuts.proofs.Lookups.{first-low, sought-le}
 use Rattle.interval_pruner.specs.declared.Tried.{Tried}
 use Rattle.interval_pruner.specs.declared.Tried.the-variants.{Nothing, Cut}
 use Rattle.interval_pruner.specs.declared.Bound.{Bound}
@@ -20,7 +21,6 @@ use Rattle.interval_pruner.specs.Column.{Column, placeOf, errorOf}
 use Rattle.interval_pruner.specs.Pruner.{past, short, sumOf, startAfter, within, endAbove, endBefore, shrunkOf, upperFrom, lowerNear, lowerTo, partsOf, hopeless}
 use Rattle.column_search.specs.Search.{State, limit, zerosOf, middle, part, upperPart, lowerPart, queued, tryCut, dropped, afterShrink, turnOn}
 use Rattle.column_search.specs.Laws.{IfTo, Inside, Shrinks, Sides}
-use Rattle.column_search.proofs.Lookups.{firstFrom-ge, soughtFrom-le}
 
 -- ---- step 2
 
@@ -39,7 +39,7 @@ unfolding startAfter
 startAfter-ge c b Nothing first = omega arith
 startAfter-ge c b (Cut k) first =
     by-leb (λ x. first ≤ x) b (sumOf c k)
-    (λ _. firstFrom-ge (atLeast (c .places) (placeOf c k + (sumOf c k - b) + 1)) (c .places) first) (λ _. omega arith)
+    (λ _. first-low (atLeast (c .places) (placeOf c k + (sumOf c k - b) + 1)) (c .places) first) (λ _. omega arith)
 
 within-in : (i : Bound) (first last : ℕ) → i .first ≤ first → last ≤ i .last → IfTo (Inside i) (within i first last)
 unfolding within
@@ -75,7 +75,7 @@ upperFrom-gt c z d m =
     (λ _. omega (
       arith,
       past-ge (z .left) (suc m),
-      firstFrom-ge (atLeast (c .places) (placeOf c m + d + 1)) (c .places) (past (z .left) (suc m)),
+      first-low (atLeast (c .places) (placeOf c m + d + 1)) (c .places) (past (z .left) (suc m)),
     ))
     (λ _. omega arith)
 
@@ -86,7 +86,7 @@ lowerTo-le c z d m first h g =
     by-test (λ y. y ≤ m) (c .small)
     (λ _. by-ltb (λ y. y ≤ m) 0 d
     (λ _. by-ltb (λ y. y ≤ m) x (placeOf c first) (λ _. omega arith)
-    (λ _. soughtFrom-le (above (c .places) x) (c .places) first (short (z .right) (m - 1)) m h (lt→ltb x (placeOf c m) (omega arith))))
+    (λ _. sought-le (above (c .places) x) (c .places) first (short (z .right) (m - 1)) m h (lt→ltb x (placeOf c m) (omega arith))))
     (λ _. omega arith))
     (λ _. omega arith)
 

@@ -110,6 +110,11 @@ unfolding endOf
 end-high places first last =
     by-ltb (λ (e : ℕ). e ≤ length places) first last (λ h. omega arith) (λ h. omega arith)
 
+-- a listed cut up to the last is looked at
+pub end-past : (places : List ℕ) (first last k : ℕ) → k ≤ last → k < length places → k < endOf places first last
+unfolding endOf
+end-past places first last k h g = by-ltb (λ (e : ℕ). k < e) first last (λ _. omega arith) (λ _. g)
+
 module _ (ok : ℕ → Bool) (places : List ℕ) (first last : ℕ) where
   -- the shorter look stops at its end
   pub sought-short : soughtFrom ok places first last ≡ min (firstFrom ok places first) (max first (endOf places first last))
