@@ -19,10 +19,11 @@ use Rattle.interval_pruner.specs.declared.Shrunk.{Shrunk}
 use Rattle.interval_pruner.specs.declared.Shrunk.the-variants.{Dropped, To}
 use Rattle.interval_pruner.specs.Column.{Column, placeOf, leftOf, rightOf, errorOf}
 use Rattle.interval_pruner.specs.Pruner.{past, short, sumOf, heldLeft, heldRight, hopeless, startAfter, within, endAbove, endBefore, shrunkOf, upperFrom, lowerNear, lowerTo, partsOf}
+use Rattle.interval_pruner.proofs.Shrinking.{start-low}
 use Rattle.column_search.specs.Search.{State, limit, zerosOf, middle, part, upperPart, lowerPart, queued, tryCut, dropped, turnOn, turn, turns, start, columnRun}
 use Rattle.column_search.specs.Laws.{Inside, Feasible, RunOf, IfCut, Metric, Optimal, count}
 use Rattle.column_search.specs.Loop.{Seen, Waiting, Kept}
-use Rattle.column_search.proofs.Steps.{past-ge, startAfter-ge, shrunkIn, newParts, turn-cases}
+use Rattle.column_search.proofs.Steps.{past-ge, shrunkIn, newParts, turn-cases}
 use Rattle.column_search.proofs.Kept.{kept-try, kept-turn, kept-start}
 use Rattle.column_search.proofs.Count.{ends}
 use Rattle.column_search.proofs.Marks.{marks, mark-of}
@@ -147,7 +148,7 @@ module _ (c : Column) (bound first last : ℕ) (fair : Feasible c first last) (m
           let a : ℕ = startAfter c b (i .left) p in
           by-test (HitTo (Has k)) (c .small)
           (λ _. endBefore-keeps i (i .right) a (short (zerosOf c tried .right) (i .last)) (w .right) (h .1)
-          (omega (arith, past-ge (zerosOf c tried .left) (i .first), startAfter-ge c b (i .left) p))
+          (omega (arith, past-ge (zerosOf c tried .left) (i .first), start-low c b (i .left) p))
           (startAfter-keeps i (i .left) p (w .left) (h .0) (past-keeps (zerosOf c tried .left) (i .first) left-mark (h .0)))
           (short-keeps (zerosOf c tried .right) (i .last) right-mark (h .1)))
           (λ _. within-keeps i (i .first) (i .last) (h .0) (h .1))

@@ -19,6 +19,7 @@ use Rattle.interval_pruner.specs.declared.Shrunk.the-variants.{Dropped, To}
 use Rattle.interval_pruner.specs.declared.Zeros.{Zeros}
 use Rattle.interval_pruner.specs.Column.{Column, placeOf, errorOf}
 use Rattle.interval_pruner.specs.Pruner.{past, short, sumOf, startAfter, within, endAbove, endBefore, shrunkOf, upperFrom, lowerNear, lowerTo, partsOf, hopeless}
+use Rattle.interval_pruner.proofs.Shrinking.{start-low}
 use Rattle.column_search.specs.Search.{State, limit, zerosOf, middle, part, upperPart, lowerPart, queued, tryCut, dropped, afterShrink, turnOn}
 use Rattle.column_search.specs.Laws.{IfTo, Inside, Shrinks, Sides}
 
@@ -33,13 +34,6 @@ pub short-le : (z : Tried) (last : ℕ) → short z last ≤ last
 unfolding short
 short-le Nothing last = omega arith
 short-le (Cut z) last = omega arith
-
-pub startAfter-ge : (c : Column) (b : ℕ) (o : Tried) (first : ℕ) → first ≤ startAfter c b o first
-unfolding startAfter
-startAfter-ge c b Nothing first = omega arith
-startAfter-ge c b (Cut k) first =
-    by-leb (λ x. first ≤ x) b (sumOf c k)
-    (λ _. first-low (atLeast (c .places) (placeOf c k + (sumOf c k - b) + 1)) (c .places) first) (λ _. omega arith)
 
 within-in : (i : Bound) (first last : ℕ) → i .first ≤ first → last ≤ i .last → IfTo (Inside i) (within i first last)
 unfolding within
@@ -63,7 +57,7 @@ shrunk-in c z b i =
     let from : ℕ = past (z .left) (i .first) in
     by-test (IfTo (Inside i)) (c .small)
     (λ _. endBefore-in c b (i .right) i (startAfter c b (i .left) from) (short (z .right) (i .last))
-    (omega (arith, past-ge (z .left) (i .first), startAfter-ge c b (i .left) from)) (short-le (z .right) (i .last)))
+    (omega (arith, past-ge (z .left) (i .first), start-low c b (i .left) from)) (short-le (z .right) (i .last)))
     (λ _. within-in i (i .first) (i .last) (omega arith) (omega arith))
 
 -- ---- step 5

@@ -1,11 +1,11 @@
 -- Laws of the lookups. Each lookup is a walk, so `walked` says all there is to know of it; a longer walk that stops early is the shorter one.
 -- Assumes nothing.
-use mathlib.Core.Path.{_≡_, refl, sym, ap, _∙_, subst}
+use mathlib.Core.Path.{_≡_, sym, ap, _∙_, subst}
 use Prim.Native.Nat.{ℕ, zero, suc, _-_, _≤_, _<_, min, max}
 use native.Mathlib.Omega.{arith}
 use mathlib.Core.Bool.{Bool, not}
-use mathlib.Core.List.{List, [], _∷_}
-use lib.ListN.{length, getD}
+use mathlib.Core.List.{List}
+use lib.ListN.{length}
 use lib.Dec.{T, T-not, ltb}
 use lib.Arith.{le→nltb}
 use Rattle.basics.specs.Walk.{walk, Walked}
@@ -14,12 +14,6 @@ use Rattle.basics.proofs.Walk.{walked, walk-short}
 use Rattle.cuts.specs.Lookups.{place, Ascending, atLeast, above, firstFrom, endOf, soughtFrom}
 
 -- ---- places
-
--- past its end a list reads as the default
-pub getD-past {ℓ} : {A : Type ℓ} (xs : List A) (k : ℕ) (d : A) → length xs ≤ k → getD xs k d ≡ d
-getD-past [] k d h = refl
-getD-past (x ∷ xs) zero d h = absurd (omega arith)
-getD-past (x ∷ xs) (suc k) d h = getD-past xs k d (omega arith)
 
 -- a later cut stands at a later place
 pub ascending-lt : (places : List ℕ) → Ascending places → (k j : ℕ) → k < j → j < length places → place places k < place places j

@@ -1,19 +1,7 @@
--- A choice by a test of a number, from what is known of the number. Assumes nothing.
+-- A choice by a test whose value is known. Assumes nothing.
 use mathlib.Core.Path.{_≡_, ap}
-use Prim.Native.Nat.{ℕ}
 use mathlib.Core.Bool.{Bool, true, false}
-use lib.Dec.{eqb}
-use borrow.Author.Tests.{eq-eqb, ne-eqb}
 use Rattle.basics.specs.Choice.{pick}
-
-module _ {ℓ} {X : Type ℓ} (n : ℕ) (x y : X) where
-  pub pick-zero : n ≡ 0 → pick (eqb n 0) x y ≡ x
-  unfolding pick
-  pick-zero e = ap (λ (b : Bool). pick b x y) (eq-eqb n 0 e)
-
-  pub pick-other : (n ≡ 0 → ⊥) → pick (eqb n 0) x y ≡ y
-  unfolding pick
-  pick-other h = ap (λ (b : Bool). pick b x y) (ne-eqb n 0 h)
 
 module _ {ℓ} {X : Type ℓ} (b : Bool) (x y : X) where
   pub pick-yes : b ≡ true → pick b x y ≡ x

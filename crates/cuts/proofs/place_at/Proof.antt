@@ -2,8 +2,8 @@
 use borrow.Author.Needs.{needs}
 use mathlib.Core.Path.{sym}
 use native.Mathlib.Omega.{arith}
+use lib.ListN.{List·getD-eq-default}
 use Rattle.cuts.specs.Lookups.{place}
-use Rattle.cuts.proofs.Lookups.{getD-past}
 use Rattle.cuts.proofs.place_at.Statement.{statement}
 use Rattle.cuts.proofs.place_at.Tie as tie
 
@@ -24,7 +24,7 @@ returns-2 : tie.Need-returns-2
 unfolding place
 returns-2 c =
     let a = c .before .before .args in
-    (sym (getD-past (a .cuts .now) (a .k) 0 (c .if1 .left)), omega arith)
+    (sym (List·getD-eq-default (a .cuts .now) 0 (c .if1 .left)), omega arith)
 
 pub place-at-spec : {M : Type 1} → statement M
 place-at-spec =

@@ -2,7 +2,7 @@
 use borrow.Author.Needs.{needs}
 use mathlib.Core.Path.{sym}
 use native.Mathlib.Omega.{arith}
-use Rattle.cuts.proofs.Lookups.{getD-past}
+use lib.ListN.{List·getD-eq-default}
 use Rattle.interval_pruner.proofs.at.Statement.{statement}
 use Rattle.interval_pruner.proofs.at.Tie as tie
 
@@ -21,7 +21,7 @@ returns c = search needs
 returns-2 : tie.Need-returns-2
 returns-2 c =
     let a = c .before .before .args in
-    (sym (getD-past (a .table .now) (a .i) 0 (c .if1 .left)), omega arith)
+    (sym (List·getD-eq-default (a .table .now) 0 (c .if1 .left)), omega arith)
 
 pub at-spec : {M : Type 1} → statement M
 at-spec = tie.close (tie.spec mul-wide shared-slice-read-wide wide-requires returns returns-2)
