@@ -6,7 +6,7 @@ use mathlib.Core.Bool.{Bool, _&&_}
 use mathlib.Core.Option.{Option, none, some}
 use mathlib.Core.List.{List, [], _∷_, _++_}
 use lib.ListN.{length}
-use lib.Dec.{ltb, eqb}
+use lib.Dec.{leb, ltb, eqb}
 use Rattle.basics.specs.Choice.{pick}
 use Rattle.basics.specs.Lists.{All}
 use Rattle.sheet.specs.declared.Terms.{Terms}
@@ -40,6 +40,7 @@ use Rattle.depth2.specs.declared.Held.the-variants.{Empty, Rule}
 use Rattle.depth2.specs.declared.Standing.{Standing}
 use Rattle.depth2.specs.declared.Course.{Course}
 use Rattle.depth2.specs.declared.Attempt.{Attempt}
+use Rattle.depth2.specs.declared.Reach.{Reach}
 use Rattle.cut_try.specs.Lent.{tableOf, ringOf, Enough, Became}
 use Rattle.cut_try.specs.Ready.{Whole}
 use Rattle.cut_try.specs.Try.{columnOf, treeAt, triedTree}
@@ -145,6 +146,10 @@ improvedBy p tree =
 -- "if it is 0, the column ends"
 abbrev pub endsColumn : ℕ → ℕ → Bool
 endsColumn error current = ltb error current && eqb error 0
+
+-- what step 5 takes from the terms for a try of that error, and the current error after it
+abbrev pub reachOf : Terms → ℕ → ℕ → Reach
+reachOf t error current = record { gap = t .gap; small = leb (t .support) 1; excess = error - min current (t .bound) }
 
 -- step 5 by the cuts' places, for a try of that error
 unfoldable pub partsQueued : List ℕ → ℕ → Bool → Zeros → ℕ → ℕ → Bound → List Bound

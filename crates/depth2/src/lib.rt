@@ -35,7 +35,7 @@ ghost use Rattle.cut_try.specs.Try.{columnOf as columnIn};
 ghost use Rattle.depth2.specs.Search.{searched, searchOf, scratchOf};
 ghost use Rattle.cut_try.specs.Lent.{tableOf, ringOf, Enough, Became};
 ghost use Rattle.depth2.specs.declared.Standing.{Standing};
-ghost use Rattle.depth2.specs.Course.{Attempted, Matches, Stands, Turning, Attempting, Parting, Pushing, Queued, prunedOf, partsQueued, improvedBy, endsColumn, mostTries, standingAfter, standingOf, Opened, Entering, Searching, columnAfter, answerHeld};
+ghost use Rattle.depth2.specs.Course.{Attempted, Matches, Stands, Turning, Attempting, Parting, Pushing, Queued, prunedOf, reachOf, partsQueued, improvedBy, endsColumn, mostTries, standingAfter, standingOf, Opened, Entering, Searching, columnAfter, answerHeld};
 ghost use Rattle.cut_try.specs.Ready.{Trying, PlacedIn, Whole};
 
 // The first interval that waits.
@@ -146,21 +146,38 @@ fn queue_part(rows: usize, queue: Queue, bound: Bound, scratch: &mut [u32]) -> Q
     queue
 }
 
+// What step 5 takes from the terms, and how far a try's error is above the best.
+struct Reach {
+    gap: u32,
+    small: bool,
+    excess: u32,
+}
+
+fn reach_of(terms: Terms, error: u32, current: u32) -> Reach
+    ensures { λ r. ⌜ r ≡ reachOf terms error current ⌝ }
+{
+    let small = is_small(terms.support);
+    let excess = minus(error, smaller(current, terms.bound));
+    Reach {
+        gap: terms.gap,
+        small,
+        excess,
+    }
+}
+
 // Step 5: the upper part, then the lower.
 fn queue_parts(
     rows: usize,
     places: &[u16],
-    gap: u32,
-    small: bool,
+    reach: Reach,
     zeros: Zeros,
-    excess: u32,
     bound: Bound,
     cut: usize,
     queue: Queue,
     scratch: &mut [u32],
 ) -> Queue
     requires { ⌜ Parting rows (now places) zeros bound cut queue (now scratch) ⌝ }
-    ensures { λ r. ⌜ Queued rows (now (scratch .entry)) (now (scratch .exit)) queue r (partsQueued (now (places .entry)) gap small zeros excess cut bound) ⌝ }
+    ensures { λ r. ⌜ Queued rows (now (scratch .entry)) (now (scratch .exit)) queue r (partsQueued (now (places .entry)) (reach .gap) (reach .small) zeros (reach .excess) cut bound) ⌝ }
     ensures lent { λ _. ⌜ Became rows (now (scratch .entry)) (now (scratch .exit)) (tableOf rows (now (scratch .entry))) (ringOf rows (now (scratch .exit))) ⌝ }
 {
     if bound.first == bound.last {
@@ -169,11 +186,11 @@ fn queue_parts(
     let parts = interval_pruner::neighbourhood_pruning(
         places,
         zeros,
-        gap,
-        excess,
+        reach.gap,
+        reach.excess,
         bound.first,
         cut,
-        small,
+        reach.small,
     );
     let left = bound.left;
     let right = bound.right;
@@ -240,6 +257,12 @@ fn ends_column(error: u32, current: u32) -> bool
     if error < current { error == 0 } else { false }
 }
 
+// A cut of a column, by number.
+struct ColumnCut {
+    column: usize,
+    cut: usize,
+}
+
 // A try, and the zero marks after it.
 struct Attempt {
     tree: Tree,
@@ -254,13 +277,12 @@ fn try_and_keep(
     codes: &[u8],
     order: &[u16],
     cuts: &[u16],
-    column: usize,
-    cut: usize,
+    at: ColumnCut,
     zeros: Zeros,
     scratch: &mut [u32],
 ) -> Attempt
-    requires { ⌜ Trying size (now values) (now codes) (now order) (now cuts) column cut (now scratch) ⌝ }
-    ensures { λ r. ⌜ ((counts : List ℕ) → Attempted (sheetOf size (now (values .entry)) (now (codes .entry)) (now (order .entry)) (now (cuts .entry)) counts) support column cut zeros (now (scratch .entry)) (now (scratch .exit)) r) ⌝ }
+    requires { ⌜ Trying size (now values) (now codes) (now order) (now cuts) (at .column) (at .cut) (now scratch) ⌝ }
+    ensures { λ r. ⌜ ((counts : List ℕ) → Attempted (sheetOf size (now (values .entry)) (now (codes .entry)) (now (order .entry)) (now (cuts .entry)) counts) support (at .column) (at .cut) zeros (now (scratch .entry)) (now (scratch .exit)) r) ⌝ }
 {
     let rows = size.rows;
     let tree = cut_try::try_cut(
@@ -270,8 +292,8 @@ fn try_and_keep(
         codes,
         order,
         cuts,
-        column,
-        cut,
+        at.column,
+        at.cut,
         scratch,
     );
     let left = tree.left;
@@ -279,7 +301,7 @@ fn try_and_keep(
     let marks = keep_errors(
         rows,
         zeros,
-        cut,
+        at.cut,
         cut_try::side_error(left),
         cut_try::side_error(right),
         scratch,
@@ -287,43 +309,30 @@ fn try_and_keep(
     Attempt { tree, zeros: marks }
 }
 
-// What waits after a try: nothing if the column ends, else the parts of its interval too.
+// What waits after a try: nothing if the column is over, else the parts of its interval too.
 fn next_queue(
     rows: usize,
     places: &[u16],
-    gap: u32,
-    small: bool,
+    reach: Reach,
     zeros: Zeros,
-    excess: u32,
-    ended: bool,
+    over: bool,
     bound: Bound,
     cut: usize,
     queue: Queue,
     scratch: &mut [u32],
 ) -> Queue
     requires { ⌜ Parting rows (now places) zeros bound cut queue (now scratch) ⌝ }
-    ensures { λ r. ⌜ contents (ringOf rows (now (scratch .exit))) r ≡ pick ended [] (contents (ringOf rows (now (scratch .entry))) queue ++ partsQueued (now (places .entry)) gap small zeros excess cut bound) ⌝ }
+    ensures { λ r. ⌜ contents (ringOf rows (now (scratch .exit))) r ≡ pick over [] (contents (ringOf rows (now (scratch .entry))) queue ++ partsQueued (now (places .entry)) (reach .gap) (reach .small) zeros (reach .excess) cut bound) ⌝ }
     ensures sane { λ r. ⌜ Sane (ringOf rows (now (scratch .exit))) r ⌝ }
     ensures lent { λ _. ⌜ Became rows (now (scratch .entry)) (now (scratch .exit)) (tableOf rows (now (scratch .entry))) (ringOf rows (now (scratch .exit))) ⌝ }
 {
-    if ended {
+    if over {
         return Queue {
             head: queue.head,
             waiting: 0,
         };
     }
-    queue_parts(
-        rows,
-        places,
-        gap,
-        small,
-        zeros,
-        excess,
-        bound,
-        cut,
-        queue,
-        scratch,
-    )
+    queue_parts(rows, places, reach, zeros, bound, cut, queue, scratch)
 }
 
 // Steps 3 to 5 of an interval.
@@ -348,39 +357,17 @@ fn try_interval(
     let was = course.zeros;
     let queue = course.queue;
     let standing = course.standing;
+    let support = terms.support;
     let cut = (bound.first + bound.last) / 2;
-    let tried = try_and_keep(
-        size,
-        terms.support,
-        values,
-        codes,
-        order,
-        cuts,
-        column,
-        cut,
-        was,
-        scratch,
-    );
+    let at = ColumnCut { column, cut };
+    let tried = try_and_keep(size, support, values, codes, order, cuts, at, was, scratch);
     let tree = tried.tree;
     let zeros = tried.zeros;
     let next = improved(standing, tree);
-    let ended = ends_column(tree.error, standing.error);
-    let excess = minus(tree.error, smaller(next.error, terms.bound));
-    let small = is_small(terms.support);
+    let over = ends_column(tree.error, standing.error);
+    let reach = reach_of(terms, tree.error, next.error);
     let places = places_of(size, cuts, counts, column);
-    let waiting = next_queue(
-        rows,
-        places,
-        terms.gap,
-        small,
-        zeros,
-        excess,
-        ended,
-        bound,
-        cut,
-        queue,
-        scratch,
-    );
+    let waiting = next_queue(rows, places, reach, zeros, over, bound, cut, queue, scratch);
     Course {
         standing: next,
         zeros,

@@ -19,7 +19,7 @@ returns c =
     let start = c .before .before .before in
     let a = start .args in
     let all : List Bound =
-    contents (ringOf (a .rows) (a .scratch .now)) (a .queue) ++ partsQueued (a .places .now) (a .gap) (a .small) (a .zeros) (a .excess) (a .cut) (a .bound) in (
+    contents (ringOf (a .rows) (a .scratch .now)) (a .queue) ++ partsQueued (a .places .now) (a .reach .gap) (a .reach .small) (a .zeros) (a .reach .excess) (a .cut) (a .bound) in (
       sym (ap (λ (b : Bool). pick b [] all) (c .if1 .taken)),
       (record { head-in = start .pre .sane .head-in; few = omega arith }, record { size = refl; rest = refl; table-is = refl; ring-is = refl }),
     )
@@ -36,7 +36,7 @@ returns-2 c =
     let start = c .before .before .before .before .before .before .before in
     let a = start .args in
     let all : List Bound =
-    contents (ringOf (a .rows) (a .scratch .now)) (a .queue) ++ partsQueued (a .places .now) (a .gap) (a .small) (a .zeros) (a .excess) (a .cut) (a .bound) in
+    contents (ringOf (a .rows) (a .scratch .now)) (a .queue) ++ partsQueued (a .places .now) (a .reach .gap) (a .reach .small) (a .zeros) (a .reach .excess) (a .cut) (a .bound) in
     let call = c .before .before .queue-parts in
     (call .ensures .0 .contents-are ∙ sym (ap (λ (b : Bool). pick b [] all) (c .before .before .before .before .if1 .left)), (call .ensures .0 .sane, call .ensures .1))
 

@@ -19,14 +19,14 @@ unfolding triedTree treeAt
 side-error-requires c κs =
     let start = c .before .before .before .before .before .before .before .before .before in
     let a = start .args in
-    omega (arith, tried-few (a .size) (a .values .now) (a .codes .now) (a .order .now) (a .cuts .now) (a .column) (a .cut) (a .scratch .now) (start .pre) (a .support), ap (λ (z : Tree). sideError (z .left)) (c .before .before .try-cut .ensures .0 (start .pre .counts)), start .pre .enough .few)
+    omega (arith, tried-few (a .size) (a .values .now) (a .codes .now) (a .order .now) (a .cuts .now) (a .at .column) (a .at .cut) (a .scratch .now) (start .pre) (a .support), ap (λ (z : Tree). sideError (z .left)) (c .before .before .try-cut .ensures .0 (start .pre .counts)), start .pre .enough .few)
 
 side-error-requires-2 : tie.Need-side-error-requires-2
 unfolding triedTree treeAt
 side-error-requires-2 c κs =
     let start = c .before .before .before .before .before .before .before .before .before .before in
     let a = start .args in
-    omega (arith, tried-few (a .size) (a .values .now) (a .codes .now) (a .order .now) (a .cuts .now) (a .column) (a .cut) (a .scratch .now) (start .pre) (a .support), ap (λ (z : Tree). sideError (z .right)) (c .before .before .before .try-cut .ensures .0 (start .pre .counts)), start .pre .enough .few)
+    omega (arith, tried-few (a .size) (a .values .now) (a .codes .now) (a .order .now) (a .cuts .now) (a .at .column) (a .at .cut) (a .scratch .now) (start .pre) (a .support), ap (λ (z : Tree). sideError (z .right)) (c .before .before .before .try-cut .ensures .0 (start .pre .counts)), start .pre .enough .few)
 
 keep-errors-requires : tie.Need-keep-errors-requires
 keep-errors-requires c κs = search needs
@@ -45,12 +45,12 @@ returns c counts =
     let right = c .before .before .before .before .side-error2 .ensures ∙ ap (λ (z : Tree). sideError (z .right)) e in
     record {
       tree = e;
-      zeros-are = kept .ensures .0 ∙ (λ t. zerosAfter (a .zeros) (a .cut) (left t) (right t));
+      zeros-are = kept .ensures .0 ∙ (λ t. zerosAfter (a .zeros) (a .at .cut) (left t) (right t));
       lent =
           record {
             size = kept .ensures .1 .size ∙ tree .ensures .1 .size;
             rest = kept .ensures .1 .rest ∙ tree .ensures .1 .rest;
-            table-is = kept .ensures .1 .table-is ∙ (λ t. recordedAfter (tree .ensures .1 .table-is t) (a .cut) (left t) (right t));
+            table-is = kept .ensures .1 .table-is ∙ (λ t. recordedAfter (tree .ensures .1 .table-is t) (a .at .cut) (left t) (right t));
             ring-is = kept .ensures .1 .ring-is ∙ tree .ensures .1 .ring-is;
           };
     }

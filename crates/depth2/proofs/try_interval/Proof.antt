@@ -1,6 +1,6 @@
 -- `depth2::try_interval` meets its contract. The middle of an interval of listed cuts is a listed cut; the rest is `Steps`. Assumes nothing.
 use mathlib.Core.Path.{refl, sym, ap, _∙_, subst}
-use Prim.Native.Nat.{ℕ, _+_, _-_, min}
+use Prim.Native.Nat.{ℕ, _+_}
 use native.Mathlib.Omega.{arith}
 use mathlib.Core.List.{List, _++_, []}
 use borrow.Author.Needs.{needs}
@@ -11,7 +11,7 @@ use Rattle.column_search.specs.Search.{middle, tryCut}
 use Rattle.depth2.specs.declared.Standing.{Standing}
 use Rattle.cut_try.specs.Lent.{ringOf}
 use Rattle.cut_try.specs.Try.{columnOf}
-use Rattle.depth2.specs.Course.{Matches, Parting, partsQueued}
+use Rattle.depth2.specs.Course.{Matches, Parting, reachOf, partsQueued}
 use Rattle.depth2.proofs.Places.{placed-in}
 use Rattle.depth2.proofs.Steps.{matches-next}
 use Rattle.depth2.proofs.Turns.{to-try, to-part, middle-row}
@@ -36,27 +36,21 @@ improved-requires c κs = search needs
 ends-column-requires : tie.Need-ends-column-requires
 ends-column-requires c κs = search needs
 
-smaller-requires : tie.Need-smaller-requires
-smaller-requires c κs = search needs
-
-minus-requires : tie.Need-minus-requires
-minus-requires c κs = search needs
-
-is-small-requires : tie.Need-is-small-requires
-is-small-requires c κs = search needs
+reach-of-requires : tie.Need-reach-of-requires
+reach-of-requires c κs = search needs
 
 places-of-requires : tie.Need-places-of-requires
 places-of-requires c κs =
-    let start = c .before .before .before .before .before .before .before .before .before .before .before .before .before .before .before .before .before .before .before .before .before in
+    let start = c .before .before .before .before .before .before .before .before .before .before .before .before .before .before .before .before .before .before .before in
     let a = start .args in
     placed-in (a .size) (a .values .now) (a .codes .now) (a .order .now) (a .cuts .now) (a .counts .now) (a .column) (start .pre .whole) (start .pre .here)
 
 next-queue-requires : tie.Need-next-queue-requires
 next-queue-requires c κs =
-    let start = c .before .before .before .before .before .before .before .before .before .before .before .before .before .before .before .before .before .before .before .before .before .before .before in
+    let start = c .before .before .before .before .before .before .before .before .before .before .before .before .before .before .before .before .before .before .before .before .before in
     let a = start .args in
-    let tried = c .before .before .before .before .before .before .before .before .before .before .before .try-and-keep in
-    let ys : List ℕ = tried .last .1 .1 .1 .1 .1 .1 .1 .1 .1 .0 in
+    let tried = c .before .before .before .before .before .before .before .before .before .try-and-keep in
+    let ys : List ℕ = tried .last .1 .1 .1 .1 .1 .1 .1 .1 .0 in
     subst (λ (l : List ℕ). Parting (a .size .rows) l (tried .result .zeros) (a .bound) (middle (a .bound)) (a .course .queue) ys)
     (sym (c .before .places-of .ensures (a .values .now) (a .codes .now) (a .order .now)))
     (to-part (a .size) (a .values .now) (a .codes .now) (a .order .now) (a .cuts .now) (a .counts .now) (a .terms) (a .column) (a .scratch .now) (a .course) (a .bound) (start .pre) ys (tried .result) (tried .ensures (a .counts .now)))
@@ -66,22 +60,20 @@ same-length c = search needs
 
 returns : tie.Need-returns
 returns c =
-    let start = c .before .before .before .before .before .before .before .before .before .before .before .before .before .before .before .before .before .before .before .before .before .before .before .before .before .before in
+    let start = c .before .before .before .before .before .before .before .before .before .before .before .before .before .before .before .before .before .before .before .before .before .before .before .before in
     let a = start .args in
-    let tried = c .before .before .before .before .before .before .before .before .before .before .before .before .before .before .try-and-keep in
-    let ys : List ℕ = tried .last .1 .1 .1 .1 .1 .1 .1 .1 .1 .0 in
+    let tried = c .before .before .before .before .before .before .before .before .before .before .before .before .try-and-keep in
+    let ys : List ℕ = tried .last .1 .1 .1 .1 .1 .1 .1 .1 .0 in
     let call = c .before .before .next-queue in
-    let zs : List ℕ = call .last .1 .1 .1 .1 .1 .1 .1 .1 .1 .1 .0 in
-    let next = c .before .before .before .before .before .before .before .before .before .improved .ensures in
+    let zs : List ℕ = call .last .1 .1 .1 .1 .1 .1 .1 .1 .0 in
+    let next = c .before .before .before .before .before .before .before .improved .ensures in
     let places = c .before .before .before .before .places-of .ensures (a .values .now) (a .codes .now) (a .order .now) in
-    let small = c .before .before .before .before .before .is-small .ensures in
-    let best = c .before .before .before .before .before .before .before .smaller .ensures ∙ ap (λ (z : Standing). min (z .error) (a .terms .bound)) next in
-    let excess = c .before .before .before .before .before .before .minus .ensures ∙ ap (λ (n : ℕ). tried .result .tree .error - n) best in
-    let ended = c .before .before .before .before .before .before .before .before .ends-column .ensures in
+    let reach = c .before .before .before .before .before .reach-of .ensures ∙ ap (λ (z : Standing). reachOf (a .terms) (tried .result .tree .error) (z .error)) next in
+    let over = c .before .before .before .before .before .before .ends-column .ensures in
     let attempted = tried .ensures (a .counts .now) in
-    let waiting = call .ensures .0 ∙ (λ k. pick (ended k) []
+    let waiting = call .ensures .0 ∙ (λ k. pick (over k) []
     (contents (ringOf (a .size .rows) ys) (a .course .queue)
-    ++ partsQueued (places k) (a .terms .gap) (small k) (tried .result .zeros) (excess k) (middle (a .bound)) (a .bound))) in (
+    ++ partsQueued (places k) (reach k .gap) (reach k .small) (tried .result .zeros) (reach k .excess) (middle (a .bound)) (a .bound))) in (
       (λ p state matches.
           subst (λ (z : Standing). Matches (sheetOf (a .size) (a .values .now) (a .codes .now) (a .order .now) (a .cuts .now) (a .counts .now)) (a .terms) (a .column) p zs (record { standing = z; zeros = tried .result .zeros; queue = call .result })
           (tryCut (columnOf (sheetOf (a .size) (a .values .now) (a .codes .now) (a .order .now) (a .cuts .now) (a .counts .now)) (a .terms) (a .column)) (a .terms .bound) state (state .queue) (a .bound))) (sym next)
@@ -98,9 +90,7 @@ try-interval-spec =
     try-and-keep-requires
     improved-requires
     ends-column-requires
-    smaller-requires
-    minus-requires
-    is-small-requires
+    reach-of-requires
     places-of-requires
     next-queue-requires
     same-length
