@@ -33,7 +33,7 @@ use Rattle.interval_queue.specs.declared.Popped.{Popped}
 use Rattle.interval_queue.specs.Ring.{contents, popped}
 use Rattle.interval_queue.specs.Laws.{Sane}
 use Rattle.interval_queue.proofs.Waiting.{pop-takes-first}
-use Rattle.column_search.specs.Search.{State, limit, zerosOf, middle, dropped, afterShrink, turnOn, turn}
+use Rattle.column_search.specs.Search.{State, limit, zerosOf, middle, dropped, tryCut, afterShrink, turnOn, turn}
 use Rattle.column_search.specs.Laws.{Feasible, Agree, IfCut, IfTo, Inside}
 use Rattle.column_search.specs.Loop.{Seen, Waiting, Looping, weight}
 use Rattle.column_search.proofs.Count.{loops}
@@ -161,6 +161,31 @@ unfolding prunedOf
 pruned-same col table z b i l r =
     sym (λ k. pick (same-hope col (recorded table) b i l r k) Dropped (same-shrunk col (recorded table) z b i l r k))
 
+-- ---- what is left
+
+-- nothing is: the state stays
+pub after-none : (s : Sheet) (t : Terms) (c : ℕ) (p : Standing) (xs : List ℕ) (course : Course) (state : State) (left : Shrunk) → left ≡ Dropped
+    → Matches s t c p xs course state → Matches s t c p xs course (afterShrink (columnOf s t c) (t .bound) state (state .queue) left)
+unfolding afterShrink standingAfter
+after-none s t c p xs course state left e matches =
+    subst (λ (z : Shrunk). Matches s t c p xs course (afterShrink (columnOf s t c) (t .bound) state (state .queue) z)) (sym e)
+    (record { standing = matches .standing; zeros = matches .zeros; queue = matches .queue; sane = matches .sane; agrees = matches .agrees })
+
+-- an interval is: it is tried
+pub after-some : (s : Sheet) (t : Terms) (c : ℕ) (p : Standing) (xs : List ℕ) (course : Course) (state : State) (left : Shrunk) (j : Bound) → left ≡ To j
+    → Matches s t c p xs course (tryCut (columnOf s t c) (t .bound) state (state .queue) j)
+    → Matches s t c p xs course (afterShrink (columnOf s t c) (t .bound) state (state .queue) left)
+unfolding afterShrink
+after-some s t c p xs course state left j e matches =
+    subst (λ (z : Shrunk). Matches s t c p xs course (afterShrink (columnOf s t c) (t .bound) state (state .queue) z)) (sym e) matches
+
+-- the queue of the state itself is not looked at
+after-dropped : (col : Column) (bound : ℕ) (state : State) (rest : List Bound) (left : Shrunk)
+    → afterShrink col bound (dropped state rest) rest left ≡ afterShrink col bound state rest left
+unfolding afterShrink tryCut
+after-dropped col bound state rest Dropped = refl
+after-dropped col bound state rest (To j) = refl
+
 -- ---- one interval
 
 length-contents : (words : List ℕ) (q : Queue) → length (contents words q) ≡ q .waiting
@@ -236,10 +261,11 @@ module _ (s : Sheet) (t : Terms) (c : ℕ) (xs : List ℕ) (course : Course) (be
   -- whatever is left, the course after it stands
   pub stands-next : (zs : List ℕ) (course2 : Course) (left : Shrunk)
       → prunedOf col (zerosOf col (state .tried)) (limit (t .bound) (state .error)) b ≡ left
-      → Matches s t c p zs course2 (afterShrink col (t .bound) state rest left)
+      → Matches s t c p zs course2 (afterShrink col (t .bound) (dropped state rest) rest left)
       → Stands s t c p zs course2 × (total weight (contents (ringOf (s .rows) zs) (course2 .queue)) < total weight (contents ring (course .queue)))
   stands-next zs course2 left e matches =
-      let m : Matches s t c p zs course2 (turn col (t .bound) state) = subst (Matches s t c p zs course2) (sym (turn-is left e)) matches in (
+      let m : Matches s t c p zs course2 (turn col (t .bound) state) =
+      subst (Matches s t c p zs course2) (after-dropped col (t .bound) state rest left ∙ sym (turn-is left e)) matches in (
         record { state = turn col (t .bound) state; running = looping .keeps state (stands .running); matches = m },
         omega (
           arith,
@@ -257,7 +283,7 @@ module _ (s : Sheet) (t : Terms) (c : ℕ) (xs : List ℕ) (course : Course) (be
   seen-in : (k : ℕ) → Seen col (firstAt s t c) (lastAt s t c) (limit (t .bound) (state .error)) (state .tried) k → k < countOf s c
   seen-in k h = omega (arith, h .till, cuts-few, begun .some)
 
-  pub attempting-next : p .tried ≤ mostColumns * mostTries → (j : Bound)
+  attempting-next : p .tried ≤ mostColumns * mostTries → (j : Bound)
       → prunedOf col (zerosOf col (state .tried)) (limit (t .bound) (state .error)) b ≡ To j
       → Attempting s t c xs (record { standing = course .standing; zeros = course .zeros; queue = others }) j
   unfolding standingAfter
@@ -306,3 +332,9 @@ module _ (s : Sheet) (t : Terms) (c : ℕ) (xs : List ℕ) (course : Course) (be
               begun .some,
             );
       }
+
+  pub attempting-left : p .tried ≤ mostColumns * mostTries → (left : Shrunk)
+      → prunedOf col (zerosOf col (state .tried)) (limit (t .bound) (state .error)) b ≡ left
+      → IfTo (Attempting s t c xs (record { standing = course .standing; zeros = course .zeros; queue = others })) left
+  attempting-left few Dropped e = tt
+  attempting-left few (To j) e = attempting-next few j e

@@ -29,7 +29,8 @@ ghost use Rattle.cuts.specs.Lookups.{Ascending};
 ghost use Rattle.interval_pruner.specs.Column.{columnOf};
 ghost use Rattle.interval_queue.specs.Ring.{contents, popped, pushed, pushedWords};
 ghost use Rattle.interval_queue.specs.Laws.{Sane};
-ghost use Rattle.column_search.specs.Search.{State, part, tryCut, columnRun};
+ghost use Rattle.column_search.specs.Search.{State, part, tryCut, afterShrink, columnRun};
+ghost use Rattle.column_search.specs.Laws.{IfTo};
 ghost use Rattle.column_search.specs.Loop.{weight};
 ghost use Rattle.cut_try.specs.Try.{columnOf as columnIn};
 ghost use Rattle.depth2.specs.Search.{searched, searchOf, scratchOf};
@@ -116,17 +117,19 @@ fn places_of<'a>(size: Size, cuts: &'a [u16], counts: &[u16], column: usize) -> 
 // Steps 1 and 2: what is left of an interval.
 fn prune(
     rows: usize,
+    terms: Terms,
     places: &[u16],
-    gap: u32,
-    small: bool,
     zeros: Zeros,
     bound: Bound,
-    best: u32,
+    error: u32,
     scratch: &[u32],
 ) -> Shrunk
     requires { ⌜ Enough rows (now scratch) ⌝ }
-    ensures { λ r. ⌜ (Ascending (now (places .entry)) → r ≡ prunedOf (columnOf (now (places .entry)) (tableOf rows (now (scratch .entry))) gap small) zeros best bound) ⌝ }
+    ensures { λ r. ⌜ (Ascending (now (places .entry)) → r ≡ prunedOf (columnOf (now (places .entry)) (tableOf rows (now (scratch .entry))) (terms .gap) (leb (terms .support) 1)) zeros (min error (terms .bound)) bound) ⌝ }
 {
+    let gap = terms.gap;
+    let small = is_small(terms.support);
+    let best = smaller(error, terms.bound);
     let end = RING * rows;
     if interval_pruner::subinterval_pruning(&scratch[..end], bound, gap, best, small) {
         return Shrunk::Dropped;
@@ -375,8 +378,8 @@ fn try_interval(
     }
 }
 
-// One interval: steps 1 to 5.
-fn turn(
+// Steps 3 to 5 of what is left of an interval, if anything is.
+fn try_shrunk(
     size: Size,
     terms: Terms,
     values: &[f64],
@@ -386,31 +389,15 @@ fn turn(
     counts: &[u16],
     column: usize,
     course: Course,
+    shrunk: Shrunk,
     scratch: &mut [u32],
 ) -> Course
-    requires { ⌜ Turning (sheetOf size (now values) (now codes) (now order) (now cuts) (now counts)) terms column (now scratch) course ⌝ }
-    ensures { λ r. ⌜ ((p : Standing) → Stands (sheetOf size (now (values .entry)) (now (codes .entry)) (now (order .entry)) (now (cuts .entry)) (now (counts .entry))) terms column p (now (scratch .entry)) course → Stands (sheetOf size (now (values .entry)) (now (codes .entry)) (now (order .entry)) (now (cuts .entry)) (now (counts .entry))) terms column p (now (scratch .exit)) r) ⌝ }
-    ensures lighter { λ r. ⌜ total weight (contents (ringOf (size .rows) (now (scratch .exit))) (r .queue)) < total weight (contents (ringOf (size .rows) (now (scratch .entry))) (course .queue)) ⌝ }
+    requires { ⌜ IfTo (Attempting (sheetOf size (now values) (now codes) (now order) (now cuts) (now counts)) terms column (now scratch) course) shrunk ⌝ }
+    ensures { λ r. ⌜ ((p : Standing) (state : State) → Matches (sheetOf size (now (values .entry)) (now (codes .entry)) (now (order .entry)) (now (cuts .entry)) (now (counts .entry))) terms column p (now (scratch .entry)) course state → Matches (sheetOf size (now (values .entry)) (now (codes .entry)) (now (order .entry)) (now (cuts .entry)) (now (counts .entry))) terms column p (now (scratch .exit)) r (afterShrink (columnIn (sheetOf size (now (values .entry)) (now (codes .entry)) (now (order .entry)) (now (cuts .entry)) (now (counts .entry))) terms column) (terms .bound) state (state .queue) shrunk)) ⌝ }
     ensures lent { λ r. ⌜ Became (size .rows) (now (scratch .entry)) (now (scratch .exit)) (tableOf (size .rows) (now (scratch .exit))) (ringOf (size .rows) (now (scratch .exit))) ⌝ }
 {
-    let rows = size.rows;
-    let zeros = course.zeros;
-    let queue = course.queue;
-    let standing = course.standing;
-    let popped = next_interval(rows, queue, scratch);
-    let bound = popped.bound;
-    let others = popped.queue;
-    let next = Course {
-        standing,
-        zeros,
-        queue: others,
-    };
-    let best = smaller(standing.error, terms.bound);
-    let small = is_small(terms.support);
-    let places = places_of(size, cuts, counts, column);
-    let pruned = prune(rows, places, terms.gap, small, zeros, bound, best, scratch);
-    let Shrunk::To(left) = pruned else {
-        return next;
+    let Shrunk::To(left) = shrunk else {
+        return course;
     };
     try_interval(
         size,
@@ -421,8 +408,49 @@ fn turn(
         cuts,
         counts,
         column,
-        next,
+        course,
         left,
+        scratch,
+    )
+}
+
+// One interval: steps 1 to 5.
+fn turn(
+    size: Size,
+    terms: Terms,
+    values: &[f64],
+    codes: &[u8],
+    order: &[u16],
+    cuts: &[u16],
+    counts: &[u16],
+    column: usize,
+    mut course: Course,
+    scratch: &mut [u32],
+) -> Course
+    requires { ⌜ Turning (sheetOf size (now values) (now codes) (now order) (now cuts) (now counts)) terms column (now scratch) course ⌝ }
+    ensures { λ r. ⌜ ((p : Standing) → Stands (sheetOf size (now (values .entry)) (now (codes .entry)) (now (order .entry)) (now (cuts .entry)) (now (counts .entry))) terms column p (now (scratch .entry)) course → Stands (sheetOf size (now (values .entry)) (now (codes .entry)) (now (order .entry)) (now (cuts .entry)) (now (counts .entry))) terms column p (now (scratch .exit)) r) ⌝ }
+    ensures lighter { λ r. ⌜ total weight (contents (ringOf (size .rows) (now (scratch .exit))) (r .queue)) < total weight (contents (ringOf (size .rows) (now (scratch .entry))) (course .queue)) ⌝ }
+    ensures lent { λ r. ⌜ Became (size .rows) (now (scratch .entry)) (now (scratch .exit)) (tableOf (size .rows) (now (scratch .exit))) (ringOf (size .rows) (now (scratch .exit))) ⌝ }
+{
+    let zeros = course.zeros;
+    let error = course.standing.error;
+    let popped = next_interval(size.rows, course.queue, scratch);
+    let bound = popped.bound;
+    let places = places_of(size, cuts, counts, column);
+    let pruned = prune(size.rows, terms, places, zeros, bound, error, scratch);
+    let others = popped.queue;
+    course.queue = others;
+    try_shrunk(
+        size,
+        terms,
+        values,
+        codes,
+        order,
+        cuts,
+        counts,
+        column,
+        course,
+        pruned,
         scratch,
     )
 }
