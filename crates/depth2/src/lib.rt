@@ -29,7 +29,7 @@ ghost use Rattle.cuts.specs.Lookups.{Ascending};
 ghost use Rattle.interval_pruner.specs.Column.{columnOf};
 ghost use Rattle.interval_queue.specs.Ring.{contents, popped, pushed, pushedWords};
 ghost use Rattle.interval_queue.specs.Laws.{Sane};
-ghost use Rattle.column_search.specs.Search.{State, part, tryCut, afterShrink, columnRun};
+ghost use Rattle.column_search.specs.Search.{State, part, upperPart, lowerPart, tryCut, afterShrink, columnRun};
 ghost use Rattle.column_search.specs.Laws.{IfTo};
 ghost use Rattle.column_search.specs.Loop.{weight};
 ghost use Rattle.cut_try.specs.Try.{columnOf as columnIn};
@@ -149,6 +149,32 @@ fn queue_part(rows: usize, queue: Queue, bound: Bound, scratch: &mut [u32]) -> Q
     queue
 }
 
+// The part of an interval above a tried cut.
+fn upper_part(bound: Bound, cut: usize, first: usize) -> Bound
+    ensures { λ r. ⌜ r ≡ upperPart bound cut first ⌝ }
+{
+    let right = bound.right;
+    Bound {
+        first,
+        last: bound.last,
+        left: Tried::Cut(cut),
+        right,
+    }
+}
+
+// The part below it.
+fn lower_part(bound: Bound, cut: usize, last: usize) -> Bound
+    ensures { λ r. ⌜ r ≡ lowerPart bound cut last ⌝ }
+{
+    let left = bound.left;
+    Bound {
+        first: bound.first,
+        last,
+        left,
+        right: Tried::Cut(cut),
+    }
+}
+
 // What step 5 takes from the terms, and how far a try's error is above the best.
 struct Reach {
     gap: u32,
@@ -195,20 +221,8 @@ fn queue_parts(
         cut,
         reach.small,
     );
-    let left = bound.left;
-    let right = bound.right;
-    let upper = Bound {
-        first: parts.upper,
-        last: bound.last,
-        left: Tried::Cut(cut),
-        right,
-    };
-    let lower = Bound {
-        first: bound.first,
-        last: parts.lower,
-        left,
-        right: Tried::Cut(cut),
-    };
+    let upper = upper_part(bound, cut, parts.upper);
+    let lower = lower_part(bound, cut, parts.lower);
     let more = queue_part(rows, queue, upper, scratch);
     queue_part(rows, more, lower, scratch)
 }
