@@ -21,14 +21,13 @@ use Rattle.column_search.specs.Laws.{Feasible, Lowered}
 use Rattle.column_search.specs.Loop.{Looping}
 use Rattle.column_search.proofs.Count.{loops, tries}
 use Rattle.column_search.proofs.Error.{lowers}
-use Rattle.depth2.specs.declared.Held.the-variants.{Empty}
 use Rattle.depth2.specs.declared.Standing.{Standing}
 use Rattle.depth2.specs.declared.Course.{Course}
 use Rattle.cut_try.specs.Lent.{ringOf, Enough, Became}
 use Rattle.cut_try.specs.Ready.{Whole}
 use Rattle.cut_try.specs.Try.{columnOf}
 use Rattle.depth2.specs.Search.{Progress, bestAfter, joined, afterColumn, searchColumns, searched}
-use Rattle.depth2.specs.Course.{heldAfter, standingAfter, heldOf, standingOf, feasibleAt, firstAt, lastAt, Stands, mostTries, Begun, Pushing, Opened, columnAfter, Between}
+use Rattle.depth2.specs.Course.{heldAfter, standingAfter, heldOf, standingOf, startOf, feasibleAt, firstAt, lastAt, Stands, mostTries, Begun, Pushing, Opened, columnAfter, Between}
 use Rattle.cut_try.proofs.Lent.{became-enough}
 use Rattle.depth2.proofs.Queueing.{ring-slots}
 use Rattle.depth2.proofs.Turns.{feasible-cuts, end-listed}
@@ -152,7 +151,7 @@ pub column-some : (s : Sheet) (t : Terms) (c : ℕ) (p : Standing) → firstAt s
 unfolding columnAfter
 column-some s t c p h = sym (pick-true (ltb (firstAt s t c) (feasibleAt s t c .end)) _ p (lt→ltb (firstAt s t c) (feasibleAt s t c .end) h))
 
-pub between-start : (s : Sheet) (t : Terms) → Between s t 0 (record { error = t .error; tried = 0; held = Empty })
+pub between-start : (s : Sheet) (t : Terms) → Between s t 0 (startOf (t .error))
 unfolding standingOf heldOf searched
 between-start s t =
     let n : s .columns - 0 ≡ s .columns = omega arith in

@@ -69,6 +69,10 @@ heldOf s support (some cut) error = Rule (treeAt s support (cut .0) (cut .1) err
 unfoldable pub standingOf : Sheet → ℕ → Progress → Standing
 standingOf s support p = record { error = p .error; tried = p .tried; held = heldOf s support (p .best) (p .error) }
 
+-- before the first column
+abbrev pub startOf : ℕ → Standing
+startOf error = record { error = error; tried = 0; held = Empty }
+
 -- what is answered
 unfoldable pub answerHeld : ℕ → ℕ → Held → Answer
 answerHeld error tried Empty = Kept error tried

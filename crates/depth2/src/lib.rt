@@ -36,7 +36,7 @@ ghost use Rattle.cut_try.specs.Try.{columnOf as columnIn};
 ghost use Rattle.depth2.specs.Search.{searched, searchOf, scratchOf};
 ghost use Rattle.cut_try.specs.Lent.{tableOf, ringOf, Enough, Became};
 ghost use Rattle.depth2.specs.declared.Standing.{Standing};
-ghost use Rattle.depth2.specs.Course.{Attempted, Matches, Stands, Turning, Attempting, Parting, Pushing, Queued, prunedOf, reachOf, partsQueued, improvedBy, endsColumn, mostTries, standingAfter, standingOf, Opened, Entering, Searching, columnAfter, answerHeld};
+ghost use Rattle.depth2.specs.Course.{Attempted, Matches, Stands, Turning, Attempting, Parting, Pushing, Queued, prunedOf, reachOf, partsQueued, improvedBy, endsColumn, mostTries, startOf, standingAfter, standingOf, Opened, Entering, Searching, columnAfter, answerHeld};
 ghost use Rattle.cut_try.specs.Ready.{Trying, PlacedIn, Whole};
 
 // The first interval that waits.
@@ -586,6 +586,17 @@ fn search_column(
     )
 }
 
+// The state before the first column.
+fn nothing_tried(error: u32) -> Standing
+    ensures { λ r. ⌜ r ≡ startOf error ⌝ }
+{
+    Standing {
+        error,
+        tried: 0,
+        held: Held::Empty,
+    }
+}
+
 // The columns in order. After a column, the search stops if the error is at most the gap.
 fn search_columns(
     size: Size,
@@ -601,11 +612,7 @@ fn search_columns(
     ensures { λ r. ⌜ r ≡ standingOf (sheetOf size (now (values .entry)) (now (codes .entry)) (now (order .entry)) (now (cuts .entry)) (now (counts .entry))) (terms .support) (searched (sheetOf size (now (values .entry)) (now (codes .entry)) (now (order .entry)) (now (cuts .entry)) (now (counts .entry))) terms) ⌝ }
     ensures lent { λ _. ⌜ Became (size .rows) (now (scratch .entry)) (now (scratch .exit)) (tableOf (size .rows) (now (scratch .exit))) (ringOf (size .rows) (now (scratch .exit))) ⌝ }
 {
-    let mut standing = Standing {
-        error: terms.error,
-        tried: 0,
-        held: Held::Empty,
-    };
+    let mut standing = nothing_tried(terms.error);
     let mut column: usize = 0;
     while column < size.columns {
         standing = search_column(

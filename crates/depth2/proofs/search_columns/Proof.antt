@@ -2,6 +2,7 @@
 use mathlib.Core.Path.{refl, sym, ap, _∙_, subst}
 use Prim.Native.Nat.{_+_, _-_, _≤_, _<_}
 use native.Mathlib.Omega.{arith}
+use borrow.Author.Needs.{needs}
 use Rattle.sheet.specs.Sheet.{Sheet}
 use Rattle.sheet.specs.Check.{sheetOf}
 use Rattle.cut_try.specs.Lent.{tableOf, ringOf, Became}
@@ -22,14 +23,18 @@ abbrev μ-loop : tie.MeasureT-loop
 μ-loop size terms values codes order cuts counts scratch₀ standing₀ column₀ scratch standing column =
     size .columns - column
 
+nothing-tried-requires : tie.Need-nothing-tried-requires Inv-loop μ-loop
+nothing-tried-requires c κs = search needs
+
 loop-holds : tie.Need-loop-holds Inv-loop μ-loop
 loop-holds c =
-    let a = c .before .before .before .before .before .before .args in
-    (omega arith, between-start (sheetOf (a .size) (a .values .now) (a .codes .now) (a .order .now) (a .cuts .now) (a .counts .now)) (a .terms), record { size = refl; rest = refl; table-is = refl; ring-is = refl })
+    let a = c .before .before .before .before .before .before .before .args in
+    let s : Sheet = (sheetOf (a .size) (a .values .now) (a .codes .now) (a .order .now) (a .cuts .now) (a .counts .now)) in
+    (omega arith, subst (Between s (a .terms) 0) (sym (c .nothing-tried .ensures)) (between-start s (a .terms)), record { size = refl; rest = refl; table-is = refl; ring-is = refl })
 
 search-column-requires : tie.Need-search-column-requires Inv-loop μ-loop
 search-column-requires c κs =
-    let start = c .before .before .before .before .before .before .before .before .before .before in
+    let start = c .before .before .before .before .before .before .before .before .before .before .before in
     let a = start .args in
     let loop = c .before .before .before .loop in
     record {
@@ -44,7 +49,7 @@ same-length c = c .before .before .before .before .before .search-column .ensure
 
 returns : tie.Need-returns Inv-loop μ-loop
 returns c =
-    let start = c .before .before .before .before .before .before .before .before .before .before .before .before .before .before .before .before in
+    let start = c .before .before .before .before .before .before .before .before .before .before .before .before .before .before .before .before .before in
     let a = start .args in
     let s : Sheet = (sheetOf (a .size) (a .values .now) (a .codes .now) (a .order .now) (a .cuts .now) (a .counts .now)) in
     let loop = c .before .before .before .before .before .before .before .before .before .loop in
@@ -58,7 +63,7 @@ returns c =
 
 add-column : tie.Need-add-column Inv-loop μ-loop
 add-column c =
-    let start = c .before .before .before .before .before .before .before .before .before .before .before .before .before .before .before .before in
+    let start = c .before .before .before .before .before .before .before .before .before .before .before .before .before .before .before .before .before in
     record { fits = omega (arith, c .before .before .before .before .before .before .before .if1 .taken, start .pre .0 .sound .limited .columns-most) }
 
 loop-less : tie.Need-loop-less Inv-loop μ-loop
@@ -66,7 +71,7 @@ loop-less c = omega arith
 
 loop-again : tie.Need-loop-again Inv-loop μ-loop
 loop-again c =
-    let start = c .before .before .before .before .before .before .before .before .before .before .before .before .before .before .before .before in
+    let start = c .before .before .before .before .before .before .before .before .before .before .before .before .before .before .before .before .before in
     let a = start .args in
     let s : Sheet = (sheetOf (a .size) (a .values .now) (a .codes .now) (a .order .now) (a .cuts .now) (a .counts .now)) in
     let loop = c .before .before .before .before .before .before .before .before .before .loop in
@@ -85,7 +90,7 @@ same-length-2 c = c .before .before .loop .inv .2 .size
 
 returns-2 : tie.Need-returns-2 Inv-loop μ-loop
 returns-2 c =
-    let a = c .before .before .before .before .before .before .before .before .before .args in
+    let a = c .before .before .before .before .before .before .before .before .before .before .args in
     let loop = c .before .before .loop in
     (between-end (sheetOf (a .size) (a .values .now) (a .codes .now) (a .order .now) (a .cuts .now) (a .counts .now)) (a .terms) (loop .column) (loop .standing) (omega (arith, loop .inv .0)) (loop .inv .1), loop .inv .2)
 
@@ -95,6 +100,7 @@ search-columns-spec =
     (tie.spec
     Inv-loop
     μ-loop
+    nothing-tried-requires
     loop-holds
     search-column-requires
     same-length
