@@ -38,36 +38,16 @@ fn try_times(
     column: usize,
     cut: usize,
     times: u32,
-    scratch: &mut [u32],
+    lent: &mut [u32],
 ) -> Tree
-    requires { ⌜ Trying size (now values) (now codes) (now order) (now cuts) column cut (now scratch) ⌝ }
+    requires { ⌜ Trying size (now values) (now codes) (now order) (now cuts) column cut (now lent) ⌝ }
     ensures { λ r. ⌜ ((counts : List ℕ) → r ≡ triedTree (sheetOf size (now (values .entry)) (now (codes .entry)) (now (order .entry)) (now (cuts .entry)) counts) support column cut) ⌝ }
-    ensures lent { λ _. ⌜ Became (size .rows) (now (scratch .entry)) (now (scratch .exit)) (tableOf (size .rows) (now (scratch .exit))) (ringOf (size .rows) (now (scratch .exit))) ⌝ }
+    ensures lent { λ _. ⌜ Became (size .rows) (now (lent .entry)) (now (lent .exit)) (tableOf (size .rows) (now (lent .exit))) (ringOf (size .rows) (now (lent .exit))) ⌝ }
 {
-    let mut tree = cut_try::try_cut(
-        size,
-        support,
-        values,
-        codes,
-        order,
-        cuts,
-        column,
-        cut,
-        scratch,
-    );
+    let mut tree = cut_try::try_cut(size, support, values, codes, order, cuts, column, cut, lent);
     let mut done: u32 = 1;
     while done < times {
-        tree = cut_try::try_cut(
-            size,
-            support,
-            values,
-            codes,
-            order,
-            cuts,
-            column,
-            cut,
-            scratch,
-        );
+        tree = cut_try::try_cut(size, support, values, codes, order, cuts, column, cut, lent);
         done += 1;
     }
     tree

@@ -34,8 +34,8 @@ try-cut-requires-2 c κs =
     let start = c .before .before .before .before .before .before .before .before .before .before .before .before in
     let a = start .args in
     let loop = c .before .before .loop in
-    still-trying (a .size) (a .values .now) (a .codes .now) (a .order .now) (a .cuts .now) (a .column) (a .cut) (first .last .1 .1 .1 .1 .1 .1 .1 .1 .0) (loop .scratch) _ _
-    (still-trying (a .size) (a .values .now) (a .codes .now) (a .order .now) (a .cuts .now) (a .column) (a .cut) (a .scratch .now) (first .last .1 .1 .1 .1 .1 .1 .1 .1 .0) _ _ (start .pre) (first .ensures .1)) (loop .inv .1)
+    still-trying (a .size) (a .values .now) (a .codes .now) (a .order .now) (a .cuts .now) (a .column) (a .cut) (first .last .1 .1 .1 .1 .1 .1 .1 .1 .0) (loop .lent) _ _
+    (still-trying (a .size) (a .values .now) (a .codes .now) (a .order .now) (a .cuts .now) (a .column) (a .cut) (a .lent .now) (first .last .1 .1 .1 .1 .1 .1 .1 .1 .0) _ _ (start .pre) (first .ensures .1)) (loop .inv .1)
 
 add-done : tie.Need-add-done Inv-loop μ-loop
 add-done c = record { fits = omega (arith, c .before .before .before .before .loop-test .taken, c .before .before .before .before .before .before .before .before .before .before .before .before .before .before .before .fits .times) }
@@ -49,7 +49,7 @@ loop-again c =
     let loop = c .before .before .before .before .before .loop in
     let call = c .before .before .try-cut2 in (
       omega arith,
-      became-own (a .size .rows) _ (call .last .1 .1 .1 .1 .1 .1 .1 .1 .0) _ _ (became-then (a .size .rows) _ (loop .scratch) (call .last .1 .1 .1 .1 .1 .1 .1 .1 .0) _ _ _ _ (loop .inv .1) (call .ensures .1)),
+      became-own (a .size .rows) _ (call .last .1 .1 .1 .1 .1 .1 .1 .1 .0) _ _ (became-then (a .size .rows) _ (loop .lent) (call .last .1 .1 .1 .1 .1 .1 .1 .1 .0) _ _ _ _ (loop .inv .1) (call .ensures .1)),
       call .ensures .0,
     )
 
@@ -61,7 +61,7 @@ returns c =
     let a = c .before .before .before .before .before .before .before .before .before .before .before .args in
     let first = c .before .before .before .before .try-cut in
     let loop = c .before .loop in
-    (loop .inv .2, became-then (a .size .rows) (a .scratch .now) _ (loop .scratch) _ _ _ _ (first .ensures .1) (loop .inv .1))
+    (loop .inv .2, became-then (a .size .rows) (a .lent .now) _ (loop .lent) _ _ _ _ (first .ensures .1) (loop .inv .1))
 
 pub try-times-spec : {M : Type 1} → statement M
 try-times-spec =
