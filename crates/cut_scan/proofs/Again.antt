@@ -1,10 +1,12 @@
 -- One cut by itself: it can be tried again, and what a try finds is what is answered for it. Assumes nothing.
-use mathlib.Core.Path.{_≡_, refl, sym, ap, _∙_}
+use mathlib.Core.Path.{_≡_, refl, sym, ap, _∙_, subst}
 use Prim.Native.Nat.{ℕ, _≤_, _<_}
+use native.Mathlib.Omega.{arith}
+use mathlib.Core.Bool.{Bool, true, false, not, _&&_}
 use mathlib.Core.List.{List}
-use lib.Dec.{lt→ltb}
+use lib.Dec.{T, T-not, ltb, ltb→lt, lt→ltb}
 use lib.Ieee.{Float}
-use Rattle.basics.proofs.Choice.{pick-true, pick-false, nltb}
+use Rattle.basics.proofs.Choice.{pick-true, pick-false, order, same-bool, and-left, and-right, and-both, nltb}
 use Rattle.sheet.specs.declared.Size.{Size}
 use Rattle.sheet.specs.declared.Terms.{Terms}
 use Rattle.sheet.specs.declared.Checked.the-variants.{Accepted, Refused}
@@ -36,14 +38,41 @@ pub became-own : (rows : ℕ) (was scratch table ring : List ℕ) → Became row
     → Became rows was scratch (tableOf rows scratch) (ringOf rows scratch)
 became-own rows was scratch table ring b = record { size = b .size; rest = b .rest; table-is = refl; ring-is = refl }
 
+-- ---- whether there is such a cut
+
+pub past-columns : (c n k m : ℕ) → n ≤ c → false ≡ (ltb c n && ltb k m)
+past-columns c n k m h =
+    same-bool false (ltb c n && ltb k m) (λ t. absurd t) (λ t. absurd (omega (arith, h, ltb→lt c n (and-left (ltb c n) (ltb k m) t))))
+
+pub within-columns : (c n k m : ℕ) → c < n → ltb k m ≡ (ltb c n && ltb k m)
+within-columns c n k m h =
+    same-bool (ltb k m) (ltb c n && ltb k m) (λ t. and-both (ltb c n) (ltb k m) (lt→ltb c n h) t) (λ t. and-right (ltb c n) (ltb k m) t)
+
+passes : (b : Bool) → not b ≡ false → T b
+passes true e = tt
+passes false e = subst T e tt
+
+pub there : (c n k m : ℕ) → not (ltb c n && ltb k m) ≡ false → (c < n) × (k < m)
+there c n k m e =
+    let t : T (ltb c n && ltb k m) = passes (ltb c n && ltb k m) e in
+    (ltb→lt c n (and-left (ltb c n) (ltb k m) t), ltb→lt k m (and-right (ltb c n) (ltb k m) t))
+
+-- ---- what is answered
+
 module _ (s : Sheet) (support c k : ℕ) where
-  pub no-column : s .columns ≤ c → noCut ≡ scannedAt s support c k
+  no-column : s .columns ≤ c → noCut ≡ scannedAt s support c k
   unfolding scannedAt
   no-column h = sym (pick-false _ _ _ (nltb c (s .columns) h))
 
-  pub no-cut : c < s .columns → countOf s c ≤ k → noCut ≡ scannedAt s support c k
+  no-cut : c < s .columns → countOf s c ≤ k → noCut ≡ scannedAt s support c k
   unfolding scannedAt
   no-cut h l = sym (pick-true _ _ _ (lt→ltb c (s .columns) h) ∙ pick-false _ _ _ (nltb k (countOf s c) l))
+
+  pub not-there : not (ltb c (s .columns) && ltb k (countOf s c)) ≡ true → noCut ≡ scannedAt s support c k
+  not-there e =
+      order (s .columns) c no-column (λ h. order (countOf s c) k (no-cut h)
+      (λ l. absurd (T-not (ltb c (s .columns) && ltb k (countOf s c)) (subst T (sym e) tt)
+      (and-both (ltb c (s .columns)) (ltb k (countOf s c)) (lt→ltb c (s .columns) h) (lt→ltb k (countOf s c) l)))))
 
   pub sides-told : (tree : Tree) → c < s .columns → k < countOf s c → tree ≡ triedTree s support c k
       → Done (record { left = tree .left; right = tree .right }) ≡ scannedAt s support c k

@@ -6,9 +6,11 @@ use sheet::Terms;
 use sheet::WORDS_PER_ROW;
 use tree::Tree;
 ghost use mathlib.Core.Path.{_≡_};
-ghost use Prim.Native.Nat.{ℕ, _+_, _-_, _*_, _<_};
+ghost use Prim.Native.Nat.{ℕ, _+_, _-_, _*_, _≤_, _<_};
+ghost use mathlib.Core.Bool.{_&&_};
 ghost use mathlib.Core.List.{List};
-ghost use lib.ListN.{length};
+ghost use lib.Dec.{ltb};
+ghost use lib.ListN.{length, getD};
 ghost use Rattle.sheet.specs.Check.{sheetOf, checkOf, scratchAfter};
 ghost use Rattle.cut_try.specs.Try.{triedTree};
 ghost use Rattle.cut_try.specs.Lent.{tableOf, ringOf, Enough, Became};
@@ -53,6 +55,18 @@ fn try_times(
     tree
 }
 
+// Whether there is a cut of that column and number.
+fn is_listed(size: Size, counts: &[u16], column: usize, cut: usize) -> bool
+    requires { ⌜ size .columns ≤ length (now counts) ⌝ }
+    ensures { λ r. ⌜ r ≡ (ltb column (size .columns) && ltb cut (getD (now (counts .entry)) column 0)) ⌝ }
+{
+    if size.columns <= column {
+        return false;
+    }
+    let listed = wide(counts[column]);
+    cut < listed
+}
+
 // A cut of an accepted sheet, if there is one of that column and number.
 fn scan_listed(
     size: Size,
@@ -71,14 +85,7 @@ fn scan_listed(
     ensures { λ r. ⌜ r ≡ scannedAt (sheetOf size (now (values .entry)) (now (codes .entry)) (now (order .entry)) (now (cuts .entry)) (now (counts .entry))) support column cut ⌝ }
     ensures lent { λ _. ⌜ Became (size .rows) (now (scratch .entry)) (now (scratch .exit)) (tableOf (size .rows) (now (scratch .exit))) (ringOf (size .rows) (now (scratch .exit))) ⌝ }
 {
-    if size.columns <= column {
-        return Scanned::TurnedBack {
-            number: 0,
-            place: 0,
-        };
-    }
-    let listed = wide(counts[column]);
-    if listed <= cut {
+    if !is_listed(size, counts, column, cut) {
         return Scanned::TurnedBack {
             number: 0,
             place: 0,
