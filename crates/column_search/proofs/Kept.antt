@@ -1,7 +1,7 @@
 -- Between any two intervals: the queued ones are runs of feasible cuts, the cuts that they remember were tried, on their two sides, and no tried
 -- cut's error is below B, since B fell to it when it was tried and only falls. Assumes nothing.
 use mathlib.Core.Path.{_≡_, refl}
-use Prim.Native.Nat.{ℕ, zero, suc, _-_, _≤_, _<_, min}
+use Prim.Native.Nat.{ℕ, zero, suc, _≤_, _<_, min}
 use native.Mathlib.Omega.{arith}
 use mathlib.Core.List.{List, [], _∷_}
 use Rattle.basics.specs.Lists.{All, here, there}

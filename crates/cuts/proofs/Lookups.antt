@@ -77,14 +77,6 @@ module _ (ok : ℕ → Bool) (places : List ℕ) (first last : ℕ) where
   unfolding soughtFrom
   sought-low = walked ok (endOf places first last - first) first .low
 
-  pub sought-high : soughtFrom ok places first last ≤ max first (endOf places first last)
-  unfolding soughtFrom
-  sought-high = omega (arith, walked ok (endOf places first last - first) first .high)
-
-  pub sought-before : (j : ℕ) → first ≤ j → j < soughtFrom ok places first last → T (not (ok j))
-  unfolding soughtFrom
-  sought-before = walked ok (endOf places first last - first) first .before
-
   pub sought-le : (m : ℕ) → first ≤ m → T (ok m) → soughtFrom ok places first last ≤ m
   unfolding soughtFrom
   sought-le = walk-le ok (endOf places first last - first) first

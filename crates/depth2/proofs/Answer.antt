@@ -9,7 +9,7 @@ use Rattle.sheet.specs.declared.Terms.{Terms}
 use Rattle.sheet.specs.declared.Checked.{Checked}
 use Rattle.sheet.specs.declared.Checked.the-variants.{Accepted, Refused}
 use Rattle.sheet.specs.Sheet.{Sheet}
-use Rattle.sheet.specs.Check.{whole, checkOf, cleared}
+use Rattle.sheet.specs.Check.{checkOf}
 use Rattle.tree.specs.declared.Answer.the-variants.{TurnedBack}
 use Rattle.depth2.specs.declared.Standing.{Standing}
 use Rattle.depth2.specs.Search.{Progress, searched, answerOf, answerAfter, searchOf}

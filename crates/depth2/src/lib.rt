@@ -20,7 +20,7 @@ ghost use lib.Dec.{leb};
 ghost use lib.Ieee.{Float};
 ghost use lib.ListN.{length};
 ghost use Rattle.basics.specs.Choice.{pick};
-ghost use Rattle.sheet.specs.Check.{sheetOf, cleared};
+ghost use Rattle.sheet.specs.Check.{sheetOf};
 ghost use Rattle.basics.specs.Lists.{total};
 ghost use Rattle.sheet.specs.Limits.{mostRows, mostColumns};
 ghost use Rattle.sheet.specs.Sheet.{placesOf};

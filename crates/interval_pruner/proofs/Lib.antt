@@ -3,4 +3,3 @@ pub mod Picked
 pub mod Shrinking
 pub mod Neighbours
 pub mod Results
-pub mod Errors

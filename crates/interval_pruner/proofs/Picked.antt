@@ -11,6 +11,3 @@ module _ {ℓ} {X : Type ℓ} (b : Bool) (x y : X) where
   pub pick-no : b ≡ false → pick b x y ≡ y
   unfolding pick
   pick-no e = ap (λ (t : Bool). pick t x y) e
-
-pub pick-same {ℓ} : {X : Type ℓ} (b : Bool) (z : X) {x y : X} → x ≡ y → pick b x z ≡ pick b y z
-pick-same {X = X} b z e = ap (λ (w : X). pick b w z) e

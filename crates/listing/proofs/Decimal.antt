@@ -1,6 +1,6 @@
 -- How many decimal digits a number has: dividing by ten until nothing is left counts them, since after k divisions n / 10 ^ k is left. Assumes nothing.
 use mathlib.Core.Path.{_≡_, refl, sym, ap, _∙_, subst}
-use Prim.Native.Nat.{ℕ, _+_, _-_, _/_, _^_, _≤_, _<_}
+use Prim.Native.Nat.{ℕ, _+_, _/_, _^_, _≤_, _<_}
 use native.Mathlib.Omega.{arith}
 use native.Mathlib.Nat.{one-le-pow, zero-lt-suc, le-div-iff-mul-le, div-lt-iff-lt-mul, div-div-eq-div-mul, pow-suc, one-mul}
 use native.Mathlib.Numerals.{add-one}

@@ -4,7 +4,7 @@ use mathlib.Core.Path.{_≡_, refl, sym, ap, ap₂, _∙_, subst, subst₂}
 use Prim.Native.Nat.{ℕ, zero, suc, _+_, _-_, _*_, _/_, _%_, _^_, _≤_, _<_}
 use native.Mathlib.Nat.{le-of-lt, lt-of-lt-of-le, le-of-suc-le-suc, lt-of-not-le, not-le-of-lt, zero-mul, mul-one, mul-assoc, mul-comm, mul-lt-mul-of-pos-right, mul-div-cancel}
 use native.Mathlib.Omega.{arith}
-use mathlib.Core.Bool.{Bool, _&&_, _||_}
+use mathlib.Core.Bool.{Bool, _&&_}
 use lib.IntN.{ℤ, pos, negsuc}
 use lib.Dec.{T, leb, ltb, eqb, leb→le, ltb→lt}
 use lib.Pow.{pow-add, pow-pos, pow-mono, pow-lt, shl-lt}
@@ -14,7 +14,7 @@ use lib.Ieee.Fits.{and-l, and-r, down-pos, reach}
 use lib.Ieee.Exact.{HasValue}
 use lib.Ieee.Scale.{overflow, finite}
 use Rattle.order.specs.Order.{place, rank}
-use Rattle.order.proofs.Compare.{lt-is, eq-is, le-or, below-place, level-place, lt-or-eq}
+use Rattle.order.proofs.Compare.{lt-is, eq-is, below-place, level-place}
 
 pub record Held (f : Format) (x : Float) : Type 0 where
   pub sign : Bool

@@ -1,6 +1,6 @@
 -- Numbers of bytes join to wider ones; where a cell stands; a NaN by its bits. Assumes nothing.
 use mathlib.Core.Path.{_≡_, refl, sym, ap, _∙_, subst}
-use Prim.Native.Nat.{ℕ, suc, _+_, _-_, _*_, _/_, _%_, _≤_, _<_}
+use Prim.Native.Nat.{ℕ, suc, _+_, _*_, _/_, _%_, _≤_, _<_}
 use native.Mathlib.Omega.{arith}
 use native.Mathlib.Nat.{mul-le-mul, mod-lt, div-lt-iff-lt-mul}
 use mathlib.Core.Bool.{Bool, true, false, not, _&&_, _||_}

@@ -1,6 +1,6 @@
 -- Every sheet within the limits, encoded, is accepted and decodes to itself: each number stands where the reading looks for it, and its bytes give it back. Assumes nothing.
 use mathlib.Core.Path.{_≡_, sym, ap, _∙_, subst}
-use Prim.Native.Nat.{ℕ, suc, _+_, _-_, _*_, _/_, _%_, _≤_, _<_}
+use Prim.Native.Nat.{ℕ, suc, _+_, _*_, _/_, _%_, _≤_, _<_}
 use native.Mathlib.Omega.{arith}
 use native.Mathlib.Nat.{mul-le-mul-right, add-zero, div-add-mod'}
 use mathlib.Core.Bool.{Bool, true, not, _&&_, _||_}

@@ -1,6 +1,6 @@
 -- Where the bytes of an encoded sheet stand: lists of one length, one after the other. Assumes nothing.
 use mathlib.Core.Path.{_≡_, refl, sym, ap, _∙_, subst}
-use Prim.Native.Nat.{ℕ, zero, suc, _+_, _-_, _*_, _/_, _%_, _^_, _<_}
+use Prim.Native.Nat.{ℕ, zero, suc, _+_, _*_, _/_, _%_, _^_, _<_}
 use native.Mathlib.Omega.{arith}
 use native.Mathlib.Nat.{zero-mul, suc-mul, zero-add, add-zero, add-assoc, add-comm, div-lt-iff-lt-mul, pow-suc, zero-lt-suc}
 use mathlib.Core.List.{List}

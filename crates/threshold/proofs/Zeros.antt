@@ -1,10 +1,10 @@
 -- `thresholdOf` does not tell 0.0 from -0.0: an upper value may be replaced by an equal one, and so may a lower value that is below a finite upper one.
 -- Assumes nothing.
 use mathlib.Core.Path.{_≡_, refl, sym, ap, _∙_, subst}
-use Prim.Native.Nat.{ℕ, zero, suc, _+_, _-_, _*_, _^_, _≤_, _<_}
+use Prim.Native.Nat.{ℕ, zero, suc, _+_, _*_, _^_, _≤_, _<_}
 use native.Mathlib.Nat.{le-of-lt, lt-of-lt-of-le, lt-of-le-of-lt, zero-lt-suc, lt-irrefl, le-suc, zero-mul, add-zero, zero-add, sub-zero, mul-pos}
 use native.Mathlib.Omega.{arith}
-use mathlib.Core.Bool.{Bool, true, false, not, cond}
+use mathlib.Core.Bool.{Bool, true, false, cond}
 use lib.IntN.{ℤ, pos}
 use lib.Dec.{T, ltb, ltb→lt, lt→ltb, lit<, lit≤}
 use lib.Pow.{pow-pos, shl-lt}

@@ -1,6 +1,6 @@
 -- `listing::places` meets its contract. The loop's invariant: n was divided `count` times by ten. Assumes nothing.
 use mathlib.Core.Path.{sym}
-use Prim.Native.Nat.{_-_, _<_}
+use Prim.Native.Nat.{_<_}
 use native.Mathlib.Omega.{arith}
 use borrow.Author.Needs.{needs}
 use Rattle.listing.proofs.Decimal.{Counting, begun, divided, counted, fewer}

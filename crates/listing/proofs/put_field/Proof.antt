@@ -1,5 +1,4 @@
 -- `listing::put_field` meets its contract: the word is stored, and then the number. Assumes nothing.
-use Prim.Native.Nat.{_-_}
 use native.Mathlib.Omega.{arith}
 use borrow.Author.Needs.{needs}
 use Rattle.listing.specs.Listing.{field}

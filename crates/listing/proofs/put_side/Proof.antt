@@ -1,6 +1,5 @@
 -- `listing::put_side` meets its contract: the mark is stored, and then what its side has. Assumes nothing.
 use mathlib.Core.Path.{sym, _∙_, subst}
-use Prim.Native.Nat.{_-_}
 use native.Mathlib.Omega.{arith}
 use borrow.Author.Needs.{needs}
 use lib.ListN.{length-set}

@@ -1,6 +1,6 @@
 -- `listing::put_threshold` meets its contract: the word is stored, and then the digits. Assumes nothing.
 use mathlib.Core.Path.{subst}
-use Prim.Native.Nat.{ℕ, _-_}
+use Prim.Native.Nat.{ℕ}
 use native.Mathlib.Omega.{arith}
 use borrow.Author.Needs.{needs}
 use Rattle.listing.specs.Digits.{digitsOf, hexOf}

@@ -1,6 +1,5 @@
 -- `listing::write_answer` meets its contract: each case is its line or lines, and there is room for them. Assumes nothing.
 use mathlib.Core.Path.{sym, subst}
-use Prim.Native.Nat.{_-_}
 use native.Mathlib.Omega.{arith}
 use borrow.Author.Needs.{needs}
 use Rattle.tree.specs.declared.Answer.{Answer}

@@ -1,5 +1,4 @@
 -- `sheet_bytes::bits_at` meets its contract: the lower half comes first. Assumes nothing.
-use Prim.Native.Nat.{_-_}
 use native.Mathlib.Omega.{arith}
 use borrow.Author.Needs.{needs}
 use Rattle.sheet_bytes.proofs.Numbers.{bits-is}

@@ -1,6 +1,5 @@
 -- `sheet_bytes::bits_within` meets its contract: a NaN is not within. Assumes nothing.
 use mathlib.Core.Path.{sym}
-use Prim.Native.Nat.{_-_}
 use borrow.Author.Needs.{needs}
 use Rattle.sheet_bytes.proofs.Numbers.{no-nan, nan-refused}
 use Rattle.sheet_bytes.proofs.bits_within.Statement.{statement}

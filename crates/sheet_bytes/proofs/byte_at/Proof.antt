@@ -1,6 +1,5 @@
 -- `sheet_bytes::byte_at` meets its contract: past the end a byte counts as 0. Assumes nothing.
 use mathlib.Core.Path.{refl, sym}
-use Prim.Native.Nat.{_-_}
 use native.Mathlib.Omega.{arith}
 use borrow.Author.Needs.{needs}
 use lib.ListN.{List·getD-eq-default}

@@ -1,6 +1,5 @@
 -- `sheet_bytes::check_sheet` meets its contract: each return is a stage of the order. Assumes nothing.
 use mathlib.Core.Path.{sym, ap, _∙_}
-use Prim.Native.Nat.{_-_}
 use borrow.Author.Needs.{needs}
 use Rattle.sheet_bytes.specs.declared.Read.the-variants.{Refused}
 use Rattle.sheet.specs.Reasons.{sizeOutside}

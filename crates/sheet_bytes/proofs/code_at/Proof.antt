@@ -1,6 +1,6 @@
 -- `sheet_bytes::code_at` meets its contract: the code follows the mark. Assumes nothing.
 use mathlib.Core.Path.{ap, _∙_}
-use Prim.Native.Nat.{ℕ, _+_, _-_}
+use Prim.Native.Nat.{ℕ, _+_}
 use borrow.Author.Needs.{needs}
 use Rattle.sheet_bytes.specs.Bytes.{byteAt}
 use Rattle.sheet_bytes.specs.Read.{codeOf}

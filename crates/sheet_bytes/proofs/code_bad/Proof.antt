@@ -1,6 +1,5 @@
 -- `sheet_bytes::code_bad` meets its contract, by that of what it calls. Assumes nothing.
 use mathlib.Core.Path.{ap}
-use Prim.Native.Nat.{_-_}
 use borrow.Author.Needs.{needs}
 use lib.Dec.{leb}
 use Rattle.sheet_bytes.specs.Read.{codeBad}

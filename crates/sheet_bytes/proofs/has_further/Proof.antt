@@ -1,6 +1,6 @@
 -- `sheet_bytes::has_further` meets its contract: what stands past the last row's end. Assumes nothing.
 use mathlib.Core.Path.{ap}
-use Prim.Native.Nat.{ℕ, _-_}
+use Prim.Native.Nat.{ℕ}
 use borrow.Author.Needs.{needs}
 use lib.ListN.{length}
 use lib.Dec.{ltb}

@@ -1,6 +1,5 @@
 -- `sheet_bytes::head_bad` meets its contract: each arm is a case of the test. Assumes nothing.
 use mathlib.Core.Path.{sym, ap, _∙_}
-use Prim.Native.Nat.{_-_}
 use borrow.Author.Needs.{needs}
 use lib.ListN.{length}
 use mathlib.Core.Bool.{not}

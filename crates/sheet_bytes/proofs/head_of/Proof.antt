@@ -1,6 +1,5 @@
 -- `sheet_bytes::head_of` meets its contract: each number stands at its place. Assumes nothing.
 use mathlib.Core.Path.{_≡_, _∙_}
-use Prim.Native.Nat.{_-_}
 use borrow.Author.Needs.{needs}
 use Rattle.sheet_bytes.proofs.Numbers.{byte-is}
 use Rattle.sheet_bytes.specs.Bytes.{numberAt}

@@ -1,6 +1,5 @@
 -- `sheet_bytes::is_outside` meets its contract: each arm is a case of the test. Assumes nothing.
 use mathlib.Core.Path.{sym}
-use Prim.Native.Nat.{_-_}
 use lib.Dec.{ltb}
 use borrow.Author.Tests.{lt-ltb, le-ltb}
 use Rattle.sheet_bytes.specs.Read.{outside}

@@ -1,6 +1,5 @@
 -- `sheet_bytes::read_sheet` meets its contract: a refusal writes nothing, and an accepted sheet is stored from the front. Assumes nothing.
 use mathlib.Core.Path.{refl, sym, _∙_}
-use Prim.Native.Nat.{_-_}
 use native.Mathlib.Omega.{arith}
 use borrow.Author.Needs.{needs}
 use lib.ListN.{length}

@@ -1,6 +1,5 @@
 -- `sheet_bytes::size_bad` meets its contract: each arm is a case of the test. Assumes nothing.
 use mathlib.Core.Path.{sym, _∙_}
-use Prim.Native.Nat.{_-_}
 use borrow.Author.Needs.{needs}
 use mathlib.Core.Bool.{_||_}
 use Rattle.sheet.specs.Limits.{mostRows, mostColumns, mostLabels}

@@ -1,6 +1,5 @@
 -- `sheet_bytes::start_of` meets its contract: the largest sheet is small. Assumes nothing.
 use mathlib.Core.Path.{refl}
-use Prim.Native.Nat.{_-_}
 use native.Mathlib.Omega.{arith}
 use borrow.Author.Needs.{needs}
 use Rattle.sheet_bytes.specs.Read.{startOf}

@@ -1,6 +1,5 @@
 -- `sheet_bytes::terms_bad` meets its contract: each arm is a case of the test. Assumes nothing.
 use mathlib.Core.Path.{sym, _∙_}
-use Prim.Native.Nat.{_-_}
 use mathlib.Core.Bool.{_||_}
 use lib.Dec.{ltb}
 use borrow.Author.Tests.{lt-ltb, le-ltb}

@@ -1,6 +1,6 @@
 -- `sheet_bytes::value_bad` meets its contract, by those of what it calls. Assumes nothing.
 use mathlib.Core.Path.{ap, _∙_}
-use Prim.Native.Nat.{ℕ, _-_}
+use Prim.Native.Nat.{ℕ}
 use borrow.Author.Needs.{needs}
 use mathlib.Core.Bool.{not}
 use lib.Ieee.{binary64, ofBits}
