@@ -10,27 +10,23 @@ use lib.ListN.{length, getD, set, length-set}
 use lib.Seq.{getD-set-same, getD-set-other}
 use lib.Dec.{eqb, eqb→eq}
 use borrow.Author.Tests.{eq-eqb, ne-eqb}
-use lib.Ieee.{nan}
 use Rattle.basics.specs.Choice.{pick}
 use Rattle.basics.specs.Lists.{those}
 use Rattle.basics.proofs.Choice.{decide, neqb}
 use Rattle.sheet.specs.Sheet.{Sheet, valueOf, labelOf, rowAt}
 use Rattle.side_scan.specs.declared.Best.{Best}
-use Rattle.leaves_score.specs.declared.Bests.{Bests}
 use Rattle.side_scan.specs.declared.Cut.{Cut}
+use Rattle.side_scan.specs.declared.Share.{Share}
+use Rattle.side_scan.specs.declared.Stand.{Stand}
 use Rattle.side_scan.specs.declared.SideScan.{SideScan}
 use Rattle.side_scan.specs.OneSide.{noRows, cleared, raised}
 use Rattle.leaves_score.specs.Scan.{other, scanColumn}
 use Rattle.leaves_score.specs.Kept.{rowsFrom, through, Live}
-use Rattle.side_scan.specs.Step.{splitBy, passed, cutOf, atStart}
-use Rattle.leaves_score.specs.Lists.{goLeft, bothAt, ReadyColumn, Found}
+use Rattle.side_scan.specs.Step.{notBegun, standAfter, splitBy, passed, cutOf}
+use Rattle.leaves_score.specs.Lists.{goLeft, noShare, noBest, atNumber, bothAt, ReadyColumn, Found}
 use Rattle.leaves_score.proofs.Coupled.{both-rows}
 use Rattle.leaves_score.proofs.Rows.{by-two}
 use Rattle.leaves_score.proofs.Column.{Stands, passes, scores, ends, finished, starts}
-
--- what an array of bests has past its end
-abbrev pub blank : Best
-blank = record { score = 0; column = 0; threshold = nan; left = 0; right = 0; lost = 0; missed = 0 }
 
 -- the rows of a side
 abbrev pub mine : List ℕ → ℕ → ℕ → Bool
@@ -69,9 +65,15 @@ set-at xs side y d h l =
 pub unset : {A : Type 0} (xs : List A) (side : ℕ) (d : A) → length xs ≡ 2 → Changed xs xs side (getD xs side d) d
 unset xs side d h = record { two = h; at = refl; elsewhere = λ k n. refl }
 
-module _ (s : Sheet) (sides : List ℕ) (c : ℕ) (own : List (List ℕ)) (sizes : List ℕ) (least : ℕ) (firsts : List Best) where
+-- changed once more
+set-again : {A : Type 0} (xs ys : List A) (side : ℕ) (y z d : A) → Changed xs ys side y d → side < 2 → Changed xs (set ys side z) side z d
+set-again xs ys side y z d h l =
+    let k = set-at ys side z d (h .two) l in
+    record { two = k .two; at = k .at; elsewhere = λ i n. k .elsewhere i n ∙ h .elsewhere i n }
+
+module _ (s : Sheet) (sides : List ℕ) (c : ℕ) (own : List (List ℕ)) (share : List Share) (firsts : List Best) where
   abbrev pub began : ℕ → SideScan
-  began k = atStart (getD own k []) (getD sizes k 0) (s .labels) least (getD firsts k blank)
+  began k = atNumber own share firsts k
 
   abbrev pub target : ℕ → SideScan
   target k = cleared (through s c (those (mine sides k) (rowsFrom s c (s .rows) 0)) (began k))
@@ -79,18 +81,16 @@ module _ (s : Sheet) (sides : List ℕ) (c : ℕ) (own : List (List ℕ)) (sizes
   abbrev pub to-come : ℕ → ℕ → List ℕ
   to-come k i = those (mine sides k) (rowsFrom s c (s .rows - i) i)
 
-  pub record Abreast (i : ℕ) (bests : List Best) (seen : List (List ℕ)) (rows until last : List ℕ) : Type 0 where
+  pub record Abreast (i : ℕ) (bests : List Best) (seen : List (List ℕ)) (stand : List Stand) : Type 0 where
     pub within : i ≤ s .rows
     pub two-bests : length bests ≡ 2
     pub two-seen : length seen ≡ 2
-    pub two-rows : length rows ≡ 2
-    pub two-until : length until ≡ 2
-    pub two-last : length last ≡ 2
-    pub each : (k : ℕ) → k < 2 → Stands s c (began k) (target k) (to-come k i) (getD seen k []) (getD rows k 0) (getD until k 0) (getD last k 0) (getD bests k blank)
+    pub two-stand : length stand ≡ 2
+    pub each : (k : ℕ) → k < 2 → Stands s c (began k) (target k) (to-come k i) (getD seen k []) (getD stand k notBegun .counted) (getD stand k notBegun .until) (getD stand k notBegun .last) (getD bests k noBest)
 
   -- ---- a row
 
-  module _ (i : ℕ) (bests : List Best) (seen : List (List ℕ)) (rows until last : List ℕ) (h : Abreast i bests seen rows until last) (more : i < s .rows)
+  module _ (i : ℕ) (bests : List Best) (seen : List (List ℕ)) (stand : List Stand) (h : Abreast i bests seen stand) (more : i < s .rows)
       (side : ℕ) (in-two : side < 2) (side-is : getD sides (rowAt s c i) 0 ≡ side) where
     abbrev row : ℕ
     row = rowAt s c i
@@ -110,67 +110,71 @@ module _ (s : Sheet) (sides : List ℕ) (c : ℕ) (own : List (List ℕ)) (sizes
         ap (those (mine sides k)) next-rows
         ∙ those-no (mine sides k) row (rowsFrom s c (s .rows - (i + 1)) (i + 1)) (mine-other sides row k l (omega (arith, side-is, in-two)) (λ e. n (e ∙ side-is)))
 
-    pub here : Stands s c (began side) (target side) (row ∷ to-come side (i + 1)) (getD seen side []) (getD rows side 0) (getD until side 0) (getD last side 0) (getD bests side blank)
-    here = subst (λ (rs : List ℕ). Stands s c (began side) (target side) rs (getD seen side []) (getD rows side 0) (getD until side 0) (getD last side 0) (getD bests side blank)) own-rows (h .each side in-two)
+    pub here : Stands s c (began side) (target side) (row ∷ to-come side (i + 1)) (getD seen side []) (getD stand side notBegun .counted) (getD stand side notBegun .until) (getD stand side notBegun .last) (getD bests side noBest)
+    here = subst (λ (rs : List ℕ). Stands s c (began side) (target side) rs (getD seen side []) (getD stand side notBegun .counted) (getD stand side notBegun .until) (getD stand side notBegun .last) (getD bests side noBest)) own-rows (h .each side in-two)
 
     -- the other side stays
-    moved : (bests' : List Best) (seen' : List (List ℕ)) (rows' until' last' : List ℕ) (best : Best) (counts : List ℕ) (n u r : ℕ)
-        → Changed bests bests' side best blank → Changed seen seen' side counts [] → Changed rows rows' side n 0 → Changed until until' side u 0 → Changed last last' side r 0
-        → Stands s c (began side) (target side) (to-come side (i + 1)) counts n u r best → Abreast (i + 1) bests' seen' rows' until' last'
-    moved bests' seen' rows' until' last' best counts n u r cb cs cn cu cr st =
+    moved : (bests' : List Best) (seen' : List (List ℕ)) (stand' : List Stand) (best : Best) (counts : List ℕ) (on : Stand)
+        → Changed bests bests' side best noBest → Changed seen seen' side counts [] → Changed stand stand' side on notBegun
+        → Stands s c (began side) (target side) (to-come side (i + 1)) counts (on .counted) (on .until) (on .last) best → Abreast (i + 1) bests' seen' stand'
+    moved bests' seen' stand' best counts on cb cs ct st =
         record {
           within = omega arith;
           two-bests = cb .two;
           two-seen = cs .two;
-          two-rows = cn .two;
-          two-until = cu .two;
-          two-last = cr .two;
+          two-stand = ct .two;
           each = λ k l. decide (eqb k side) (λ t. itself k (eqb→eq k side t)) (λ t. another k l (neqb k side t));
         }
       where
-        itself : (k : ℕ) → k ≡ side → Stands s c (began k) (target k) (to-come k (i + 1)) (getD seen' k []) (getD rows' k 0) (getD until' k 0) (getD last' k 0) (getD bests' k blank)
-        itself k e = rw (e, cb .at, cs .at, cn .at, cu .at, cr .at) st
+        itself : (k : ℕ) → k ≡ side → Stands s c (began k) (target k) (to-come k (i + 1)) (getD seen' k []) (getD stand' k notBegun .counted) (getD stand' k notBegun .until) (getD stand' k notBegun .last) (getD bests' k noBest)
+        itself k e = rw (e, cb .at, cs .at, ct .at) st
 
-        another : (k : ℕ) → k < 2 → (k ≡ side → ⊥) → Stands s c (began k) (target k) (to-come k (i + 1)) (getD seen' k []) (getD rows' k 0) (getD until' k 0) (getD last' k 0) (getD bests' k blank)
-        another k l e = rw (cb .elsewhere k e, cs .elsewhere k e, cn .elsewhere k e, cu .elsewhere k e, cr .elsewhere k e, ← other-rows k l e) (h .each k l)
+        another : (k : ℕ) → k < 2 → (k ≡ side → ⊥) → Stands s c (began k) (target k) (to-come k (i + 1)) (getD seen' k []) (getD stand' k notBegun .counted) (getD stand' k notBegun .until) (getD stand' k notBegun .last) (getD bests' k noBest)
+        another k l e = rw (cb .elsewhere k e, cs .elsewhere k e, ct .elsewhere k e, ← other-rows k l e) (h .each k l)
 
     module _ (row-in : row < s .rows) where
       -- it is only counted
-      pub passes-on : passed (s .values) (c * s .rows) row (getD last side 0) (getD rows side 0) (getD until side 0) ≡ true
-          → Abreast (i + 1) bests (set seen side (raised (getD seen side []) (labelOf s row))) (set rows side (getD rows side 0 + 1)) until (set last side row)
+      pub passes-on : passed (s .values) (c * s .rows) row (getD stand side notBegun .last) (getD stand side notBegun .counted) (getD stand side notBegun .until) ≡ true
+          → Abreast (i + 1) bests (set seen side (raised (getD seen side []) (labelOf s row))) (set stand side (standAfter (getD stand side notBegun) row))
       passes-on e =
-          moved bests (set seen side (raised (getD seen side []) (labelOf s row))) (set rows side (getD rows side 0 + 1)) until (set last side row)
-          (getD bests side blank) (raised (getD seen side []) (labelOf s row)) (getD rows side 0 + 1) (getD until side 0) row
-          (unset bests side blank (h .two-bests)) (set-at seen side _ [] (h .two-seen) in-two) (set-at rows side _ 0 (h .two-rows) in-two) (unset until side 0 (h .two-until))
-          (set-at last side _ 0 (h .two-last) in-two)
-          (passes s c (began side) (target side) row (to-come side (i + 1)) (getD seen side []) (getD rows side 0) (getD until side 0) (getD last side 0) (getD bests side blank) here row-in e)
+          moved bests (set seen side (raised (getD seen side []) (labelOf s row))) (set stand side (standAfter (getD stand side notBegun) row))
+          (getD bests side noBest) (raised (getD seen side []) (labelOf s row)) (standAfter (getD stand side notBegun) row)
+          (unset bests side noBest (h .two-bests)) (set-at seen side _ [] (h .two-seen) in-two) (set-at stand side _ notBegun (h .two-stand) in-two)
+          (passes s c (began side) (target side) row (to-come side (i + 1)) (getD seen side []) (getD stand side notBegun .counted) (getD stand side notBegun .until) (getD stand side notBegun .last) (getD bests side noBest) here row-in e)
+
+      -- the side with the count up to which its rows are skipped from now on
+      abbrev skipping : ℕ → Stand
+      skipping until = record { counted = getD stand side notBegun .counted; until = until; last = getD stand side notBegun .last }
 
       -- or its cut is scored
-      pub scores-on : passed (s .values) (c * s .rows) row (getD last side 0) (getD rows side 0) (getD until side 0) ≡ false → 1 ≤ least → (k : Cut) (found : Best) (bests' : List Best)
-          → k ≡ cutOf (getD own side []) (getD seen side []) (s .labels) (getD rows side 0) (getD sizes side 0) least ((getD bests side blank) .score)
-          → found ≡ pick (k .taken) (splitBy (k .peaks) (getD rows side 0) (getD sizes side 0 - getD rows side 0) c (valueOf s c (getD last side 0)) (valueOf s c row)) (getD bests side blank)
-          → Changed bests bests' side found blank
-          → Abreast (i + 1) bests' (set seen side (raised (getD seen side []) (labelOf s row))) (set rows side (getD rows side 0 + 1)) (set until side (k .until)) (set last side row)
+      pub scores-on : passed (s .values) (c * s .rows) row (getD stand side notBegun .last) (getD stand side notBegun .counted) (getD stand side notBegun .until) ≡ false
+          → 1 ≤ getD share side noShare .least → (k : Cut) (found : Best) (bests' : List Best)
+          → k ≡ cutOf (getD own side []) (getD seen side []) (getD share side noShare .labels) (getD stand side notBegun .counted) (getD share side noShare .size) (getD share side noShare .least) ((getD bests side noBest) .score)
+          → found ≡ pick (k .taken) (splitBy (k .peaks) (getD stand side notBegun .counted) (getD share side noShare .size - getD stand side notBegun .counted) c (valueOf s c (getD stand side notBegun .last)) (valueOf s c row)) (getD bests side noBest)
+          → Changed bests bests' side found noBest
+          → Abreast (i + 1) bests' (set seen side (raised (getD seen side []) (labelOf s row)))
+          (set (set stand side (skipping (k .until))) side (standAfter (getD (set stand side (skipping (k .until))) side notBegun) row))
       scores-on e some k found bests' ek ef cb =
-          moved bests' (set seen side (raised (getD seen side []) (labelOf s row))) (set rows side (getD rows side 0 + 1)) (set until side (k .until)) (set last side row)
-          found (raised (getD seen side []) (labelOf s row)) (getD rows side 0 + 1) (k .until) row
-          cb (set-at seen side _ [] (h .two-seen) in-two) (set-at rows side _ 0 (h .two-rows) in-two) (set-at until side _ 0 (h .two-until) in-two)
-          (set-at last side _ 0 (h .two-last) in-two)
-          (scores s c (began side) (target side) row (to-come side (i + 1)) (getD seen side []) (getD rows side 0) (getD until side 0) (getD last side 0) (getD bests side blank) here row-in e
-          some k found ek ef)
+          let once = set-at stand side (skipping (k .until)) notBegun (h .two-stand) in-two in
+          rw (once .at)
+          (moved bests' (set seen side (raised (getD seen side []) (labelOf s row))) (set (set stand side (skipping (k .until))) side (standAfter (skipping (k .until)) row))
+          found (raised (getD seen side []) (labelOf s row)) (standAfter (skipping (k .until)) row)
+          cb (set-at seen side _ [] (h .two-seen) in-two) (set-again stand (set stand side (skipping (k .until))) side _ _ notBegun once in-two)
+          (scores s c (began side) (target side) row (to-come side (i + 1)) (getD seen side []) (getD stand side notBegun .counted) (getD stand side notBegun .until) (getD stand side notBegun .last) (getD bests side noBest) here row-in e
+          some k found ek ef))
 
   -- ---- the end
 
-  module _ (i : ℕ) (bests : List Best) (seen : List (List ℕ)) (rows until last : List ℕ) (h : Abreast i bests seen rows until last) (k : ℕ) (in-two : k < 2) where
+  module _ (i : ℕ) (bests : List Best) (seen : List (List ℕ)) (stand : List Stand) (h : Abreast i bests seen stand) (k : ℕ) (in-two : k < 2) where
     -- no cut to come can be taken
-    pub over : getD sizes k 0 ≤ getD until k 0 → getD bests k blank ≡ target k .best
-    over n = ends s c (began k) (target k) (to-come k i) (getD seen k []) (getD rows k 0) (getD until k 0) (getD last k 0) (getD bests k blank) (h .each k in-two) n
+    pub over : getD share k noShare .size ≤ getD stand k notBegun .until → getD bests k noBest ≡ target k .best
+    over n = ends s c (began k) (target k) (to-come k i) (getD seen k []) (getD stand k notBegun .counted) (getD stand k notBegun .until) (getD stand k notBegun .last) (getD bests k noBest) (h .each k in-two) n
 
     -- no row is left
-    pub all-met : s .rows ≤ i → getD bests k blank ≡ target k .best
+    pub all-met : s .rows ≤ i → getD bests k noBest ≡ target k .best
     all-met n =
-        finished s c (began k) (target k) (getD seen k []) (getD rows k 0) (getD until k 0) (getD last k 0) (getD bests k blank)
-        (subst (λ (rs : List ℕ). Stands s c (began k) (target k) rs (getD seen k []) (getD rows k 0) (getD until k 0) (getD last k 0) (getD bests k blank)) none (h .each k in-two))
+        finished s c (began k) (target k) (getD seen k []) (getD stand k notBegun .counted) (getD stand k notBegun .until) (getD stand k notBegun .last) (getD bests k noBest)
+        (subst (λ (rs : List ℕ). Stands s c (began k) (target k) rs (getD seen k []) (getD stand k notBegun .counted) (getD stand k notBegun .until) (getD stand k notBegun .last) (getD bests k noBest)) none (h .each k in-two))
       where
         nothing : those (mine sides k) (rowsFrom s c 0 i) ≡ []
         nothing = unfold rowsFrom in refl
@@ -180,43 +184,49 @@ module _ (s : Sheet) (sides : List ℕ) (c : ℕ) (own : List (List ℕ)) (sizes
             let left : s .rows - i ≡ 0 = omega arith in
             ap (λ (n : ℕ). those (mine sides k) (rowsFrom s c n i)) left ∙ nothing
 
+-- a row that is counted does not change how far its side's rows are skipped
+pub until-kept : (stand : List Stand) (side r k : ℕ) → length stand ≡ 2 → side < 2
+    → getD (set stand side (standAfter (getD stand side notBegun) r)) k notBegun .until ≡ getD stand k notBegun .until
+until-kept stand side r k two in-two =
+    let once = set-at stand side (standAfter (getD stand side notBegun) r) notBegun two in-two in
+    decide (eqb k side) (λ t. itself (eqb→eq k side t)) (λ t. ap (λ (w : Stand). w .until) (once .elsewhere k (neqb k side t)))
+  where
+    itself : k ≡ side → getD (set stand side (standAfter (getD stand side notBegun) r)) k notBegun .until ≡ getD stand k notBegun .until
+    itself e = rw e (ap (λ (w : Stand). w .until) (set-at stand side (standAfter (getD stand side notBegun) r) notBegun two in-two .at))
+
 -- ---- from a column's start to what it leaves
 
-module _ (s : Sheet) (sides : List ℕ) (c : ℕ) (own : List (List ℕ)) (sizes : List ℕ) (least : ℕ) (first second : Best)
-    (h : ReadyColumn s sides c (bothAt own sizes (s .labels) least first second)) where
-  abbrev firsts : List Best
-  firsts = first ∷ second ∷ []
-
-  pub opens : Abreast s sides c own sizes least firsts 0 firsts (noRows ∷ noRows ∷ []) (0 ∷ 0 ∷ []) (0 ∷ 0 ∷ []) (0 ∷ 0 ∷ [])
-  opens =
+module _ (s : Sheet) (sides : List ℕ) (c : ℕ) (own : List (List ℕ)) (share : List Share) (firsts : List Best)
+    (h : ReadyColumn s sides c (bothAt own share firsts)) where
+  pub opens : length firsts ≡ 2 → Abreast s sides c own share firsts 0 firsts (noRows ∷ noRows ∷ []) (notBegun ∷ notBegun ∷ [])
+  opens two =
       record {
         within = omega arith;
-        two-bests = refl;
+        two-bests = two;
         two-seen = refl;
-        two-rows = refl;
-        two-until = refl;
-        two-last = refl;
+        two-stand = refl;
         each = λ k l. by-two
-            (λ k. Stands s c (began s sides c own sizes least firsts k) (target s sides c own sizes least firsts k) (to-come s sides c own sizes least firsts k 0) (getD (noRows ∷ noRows ∷ []) k [])
-            (getD (0 ∷ 0 ∷ []) k 0) (getD (0 ∷ 0 ∷ []) k 0) (getD (0 ∷ 0 ∷ []) k 0) (getD firsts k blank))
+            (λ k. Stands s c (began s sides c own share firsts k) (target s sides c own share firsts k) (to-come s sides c own share firsts k 0) (getD (noRows ∷ noRows ∷ []) k [])
+            (getD (notBegun ∷ notBegun ∷ []) k notBegun .counted) (getD (notBegun ∷ notBegun ∷ []) k notBegun .until) (getD (notBegun ∷ notBegun ∷ []) k notBegun .last) (getD firsts k noBest))
             k l
-            (at-first 0 (getD own 0 []) (getD sizes 0 0) first (unfold cleared in h .left-live))
-            (at-first 1 (getD own 1 []) (getD sizes 1 0) second (unfold cleared in h .right-live));
+            (at-first 0 (unfold cleared in h .left-live))
+            (at-first 1 (unfold cleared in h .right-live));
       }
     where
       all : s .rows - 0 ≡ s .rows
       all = omega arith
 
-      at-first : (k : ℕ) (mineOwn : List ℕ) (size : ℕ) (best : Best) → Live s (those (mine sides k) (rowsFrom s c (s .rows) 0)) (atStart mineOwn size (s .labels) least best)
-          → Stands s c (atStart mineOwn size (s .labels) least best) (cleared (through s c (those (mine sides k) (rowsFrom s c (s .rows) 0)) (atStart mineOwn size (s .labels) least best)))
-          (those (mine sides k) (rowsFrom s c (s .rows - 0) 0)) noRows 0 0 0 best
-      at-first k mineOwn size best live =
-          rw all (starts s c mineOwn size (s .labels) least best (cleared (through s c (those (mine sides k) (rowsFrom s c (s .rows) 0)) (atStart mineOwn size (s .labels) least best)))
+      at-first : (k : ℕ) → Live s (those (mine sides k) (rowsFrom s c (s .rows) 0)) (atNumber own share firsts k)
+          → Stands s c (atNumber own share firsts k) (cleared (through s c (those (mine sides k) (rowsFrom s c (s .rows) 0)) (atNumber own share firsts k)))
+          (those (mine sides k) (rowsFrom s c (s .rows - 0) 0)) noRows 0 0 0 (getD firsts k noBest)
+      at-first k live =
+          rw all (starts s c (getD own k []) (getD share k noShare .size) (getD share k noShare .labels) (getD share k noShare .least) (getD firsts k noBest)
+          (cleared (through s c (those (mine sides k) (rowsFrom s c (s .rows) 0)) (atNumber own share firsts k)))
           (those (mine sides k) (rowsFrom s c (s .rows) 0)) live refl (h .some))
 
-  pub leaves : (r : Bests) → r .left ≡ target s sides c own sizes least firsts 0 .best → r .right ≡ target s sides c own sizes least firsts 1 .best
-      → Found s sides c (bothAt own sizes (s .labels) least first second) r
+  pub leaves : (r : List Best) → getD r 0 noBest ≡ target s sides c own share firsts 0 .best → getD r 1 noBest ≡ target s sides c own share firsts 1 .best
+      → Found s sides c (bothAt own share firsts) r
   unfolding scanColumn cleared
   leaves r el er =
-      let k = both-rows s (goLeft sides) c (s .rows) 0 (bothAt own sizes (s .labels) least first second) (h .left-live) (h .right-live) in
+      let k = both-rows s (goLeft sides) c (s .rows) 0 (bothAt own share firsts) (h .left-live) (h .right-live) in
       record { left = el ∙ sym (ap (λ (t : SideScan). t .best) (k .0)); right = er ∙ sym (ap (λ (t : SideScan). t .best) (k .1)) }

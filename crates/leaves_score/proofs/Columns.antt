@@ -18,13 +18,12 @@ use Rattle.sheet.specs.Sheet.{Sheet, valueOf, labelOf, rowAt, everyRow}
 use Rattle.sheet.proofs.Index.{column-in}
 use Rattle.side_scan.specs.declared.SideScan.{SideScan}
 use Rattle.side_scan.specs.declared.Best.{Best}
-use Rattle.leaves_score.specs.declared.Bests.{Bests}
 use Rattle.leaves_score.specs.declared.Two.{Two}
 use Rattle.side_scan.specs.OneSide.{cleared, countRow, onlyCounted, scored, stepOf, leafLabel, leafScore, sideOf}
 use Rattle.leaves_score.specs.Scan.{other, sizeOf, labelled, ownOf, rowStep, stepBoth, ended, scanRows, scanColumn, perfect, scanColumns, startBoth, scanned}
-use Rattle.leaves_score.specs.Kept.{rowsFrom, through, Alike, BothAlike, Owns, Live}
-use Rattle.side_scan.specs.Step.{atStart, Sized}
-use Rattle.leaves_score.specs.Lists.{goLeft, Numbered, bothAt, ReadyColumn, Found, Scannable}
+use Rattle.leaves_score.specs.Kept.{rowsFrom, through, Alike, BothAlike, Owns}
+use Rattle.side_scan.specs.Step.{shareOf, atStart, Sized}
+use Rattle.leaves_score.specs.Lists.{goLeft, Numbered, noBest, bothAt, ReadyColumn, Found, Scannable}
 use Rattle.leaves_score.proofs.Live.{left-is, right-is, step-any, owns-step, owns-cleared, owns-start, rows-order, begin-live}
 use Rattle.leaves_score.proofs.Coupled.{both-rows as coupled-rows}
 
@@ -119,16 +118,7 @@ crosses s c (r ∷ rs) t = crosses s c rs (rowStep s c r t) ∙ still t (labelOf
 -- the sides put by number start a column alike
 module _ (s : Sheet) (sides : List ℕ) (c : ℕ) (b : Two) (h : ReadyColumn s sides c b) where
   abbrev pub leveled : Two
-  leveled =
-      bothAt (b .left .own ∷ b .right .own ∷ []) (b .left .size ∷ b .right .size ∷ []) (s .labels) (b .left .least) (b .left .best) (b .right .best)
-
-  left-level : cleared (b .left) ≡ leveled .left
-  left-level = unfold cleared in ap (λ (n : ℕ). atStart (b .left .own) (b .left .size) n (b .left .least) (b .left .best)) (h .left-labels)
-
-  right-level : cleared (b .right) ≡ leveled .right
-  right-level =
-      unfold cleared in ap (λ (n : ℕ). atStart (b .right .own) (b .right .size) n (b .right .least) (b .right .best)) (h .right-labels)
-      ∙ ap (λ (n : ℕ). atStart (b .right .own) (b .right .size) (s .labels) n (b .right .best)) (h .right-least)
+  leveled = bothAt (b .left .own ∷ b .right .own ∷ []) (shareOf (b .left) ∷ shareOf (b .right) ∷ []) (b .left .best ∷ b .right .best ∷ [])
 
   pub ready-level : ReadyColumn s sides c leveled
   unfolding cleared
@@ -142,22 +132,18 @@ module _ (s : Sheet) (sides : List ℕ) (c : ℕ) (b : Two) (h : ReadyColumn s s
         numbered = h .numbered;
         in-rows = h .in-rows;
         labelled = h .labelled;
-        left-labels = refl;
-        right-labels = refl;
+        left-labels = h .left-labels;
+        right-labels = h .right-labels;
         left-least = h .left-least;
-        right-least = refl;
+        right-least = h .right-least;
         left-small = h .left-small;
         right-small = h .right-small;
-        left-live = subst (Live s (those (goLeft sides) (rowsFrom s c (s .rows) 0))) left-level (h .left-live);
-        right-live = subst (Live s (those (other (goLeft sides)) (rowsFrom s c (s .rows) 0))) right-level (h .right-live);
+        left-live = h .left-live;
+        right-live = h .right-live;
       }
 
   abbrev column : Two
   column = scanColumn s (goLeft sides) c b
-
-  same-column : scanColumn s (goLeft sides) c leveled ≡ column
-  unfolding scanColumn
-  same-column = ap₂ (λ (l r : SideScan). scanRows s (goLeft sides) c (s .rows) 0 (record { left = l; right = r })) ((unfold cleared in sym left-level)) ((unfold cleared in sym right-level))
 
   -- a side with its best replaced
   abbrev pub given : SideScan → Best → SideScan
@@ -177,7 +163,8 @@ module _ (s : Sheet) (sides : List ℕ) (c : ℕ) (b : Two) (h : ReadyColumn s s
       }
 
   -- what the rows found is what crosses
-  pub column-found : (r : Bests) → Found s sides c leveled r → BothAlike (record { left = given (b .left) (r .left); right = given (b .right) (r .right) }) column
+  pub column-found : (r : List Best) → Found s sides c leveled r
+      → BothAlike (record { left = given (b .left) (getD r 0 noBest); right = given (b .right) (getD r 1 noBest) }) column
   unfolding scanColumn cleared
   column-found r f =
       let k = coupled-rows s (goLeft sides) c (s .rows) 0 (record { left = cleared (b .left); right = cleared (b .right) }) (h .left-live) (h .right-live) in
@@ -185,10 +172,10 @@ module _ (s : Sheet) (sides : List ℕ) (c : ℕ) (b : Two) (h : ReadyColumn s s
       let theirs = those (other (goLeft sides)) (rowsFrom s c (s .rows) 0) in
       record {
         left = ap (atStart (b .left .own) (b .left .size) (b .left .labels) (b .left .least))
-            (f .left ∙ ap (λ (z : Two). z .left .best) same-column ∙ ap (λ (t : SideScan). t .best) (k .0))
+            (f .left ∙ ap (λ (t : SideScan). t .best) (k .0))
             ∙ sym (k .0 ∙ crosses s c mine (cleared (b .left)));
         right = ap (atStart (b .right .own) (b .right .size) (b .right .labels) (b .right .least))
-            (f .right ∙ ap (λ (z : Two). z .right .best) same-column ∙ ap (λ (t : SideScan). t .best) (k .1))
+            (f .right ∙ ap (λ (t : SideScan). t .best) (k .1))
             ∙ sym (k .1 ∙ crosses s c theirs (cleared (b .right)));
       }
 

@@ -1,11 +1,11 @@
 -- What the scan reads of the lent lists, and what it goes by: facts that an accepted sheet has. Definitions and statements only.
 use mathlib.Core.Path.{_≡_}
 use Prim.Native.Nat.{ℕ, _+_, _*_, _≤_, _<_}
-use mathlib.Core.Bool.{Bool}
+use mathlib.Core.Bool.{Bool, _&&_}
 use mathlib.Core.List.{List, []}
 use lib.ListN.{length, getD}
-use lib.Dec.{eqb}
-use lib.Ieee.{Float}
+use lib.Dec.{leb, eqb}
+use lib.Ieee.{Float, nan}
 use Rattle.basics.specs.Choice.{pick}
 use Rattle.basics.specs.Lists.{tally, those}
 use Rattle.sheet.specs.Limits.{mostLabels, mostRows}
@@ -14,13 +14,14 @@ use Rattle.sheet.specs.Sound.{Limited}
 use Rattle.sheet.specs.declared.Size.{Size}
 use Rattle.leaves_score.specs.declared.Parted.{Parted}
 use Rattle.side_scan.specs.declared.Best.{Best}
+use Rattle.side_scan.specs.declared.Share.{Share}
+use Rattle.side_scan.specs.declared.Stand.{Stand}
 use Rattle.side_scan.specs.declared.SideScan.{SideScan}
-use Rattle.leaves_score.specs.declared.Bests.{Bests}
 use Rattle.leaves_score.specs.declared.Two.{Two}
 use Rattle.side_scan.specs.OneSide.{cleared}
 use Rattle.leaves_score.specs.Scan.{other, sizeOf, ownOf, scanColumn}
 use Rattle.leaves_score.specs.Kept.{rowsFrom, through, Live}
-use Rattle.side_scan.specs.Step.{atStart}
+use Rattle.side_scan.specs.Step.{notBegun, atStart}
 
 -- the sheet that a scan reads: cuts are no part of it
 abbrev pub sheetOf : Size → List Float → List ℕ → List ℕ → Sheet
@@ -82,10 +83,26 @@ sideNumber marks r = pick (goLeft marks r) 0 1
 abbrev pub Numbered : ℕ → List ℕ → List ℕ → Type 0
 Numbered n marks sides = (r : ℕ) → r < n → getD sides r 0 ≡ sideNumber marks r
 
--- the two sides at a column's start, their counts and sizes by number
-abbrev pub bothAt : List (List ℕ) → List ℕ → ℕ → ℕ → Best → Best → Two
-bothAt own sizes labels least first second =
-    record { left = atStart (getD own 0 []) (getD sizes 0 0) labels least first; right = atStart (getD own 1 []) (getD sizes 1 0) labels least second }
+-- what a list by the side's number has past its end
+abbrev pub noShare : Share
+noShare = record { size = 0; labels = 0; least = 0 }
+
+abbrev pub noBest : Best
+noBest = record { score = 0; column = 0; threshold = nan; left = 0; right = 0; lost = 0; missed = 0 }
+
+-- the two sides at a column's start, by the side's number
+abbrev pub atNumber : List (List ℕ) → List Share → List Best → ℕ → SideScan
+atNumber own share best k = atStart (getD own k []) (getD share k noShare .size) (getD share k noShare .labels) (getD share k noShare .least) (getD best k noBest)
+
+abbrev pub bothAt : List (List ℕ) → List Share → List Best → Two
+bothAt own share best = record { left = atNumber own share best 0; right = atNumber own share best 1 }
+
+-- a side's rows are skipped to its end
+abbrev pub skipsAll : List Stand → List Share → ℕ → Bool
+skipsAll stand share k = leb (getD share k noShare .size) (getD stand k notBegun .until)
+
+abbrev pub bothSkip : List Stand → List Share → Bool
+bothSkip stand share = skipsAll stand share 0 && skipsAll stand share 1
 
 -- What the scan of a column goes by: the lists are long enough, the order's entries are rows, the rows' codes are labels, and the rows to come add up to
 -- each side's own.
@@ -108,9 +125,9 @@ pub record ReadyColumn (s : Sheet) (sides : List ℕ) (c : ℕ) (b : Two) : Type
   pub right-live : Live s (those (other (goLeft sides)) (rowsFrom s c (s .rows) 0)) (cleared (b .right))
 
 -- what the rows of a column leave: the best of each side
-pub record Found (s : Sheet) (sides : List ℕ) (c : ℕ) (b : Two) (r : Bests) : Type 0 where
-  pub left : r .left ≡ (scanColumn s (goLeft sides) c b) .left .best
-  pub right : r .right ≡ (scanColumn s (goLeft sides) c b) .right .best
+pub record Found (s : Sheet) (sides : List ℕ) (c : ℕ) (b : Two) (r : List Best) : Type 0 where
+  pub left : getD r 0 noBest ≡ (scanColumn s (goLeft sides) c b) .left .best
+  pub right : getD r 1 noBest ≡ (scanColumn s (goLeft sides) c b) .right .best
 
 -- ---- a side by itself
 

@@ -1,20 +1,25 @@
 // The scan of the two sides of a root split: the best single question for each side, in one pass over each column.
 ghost use mathlib.Core.Path.{_≡_};
-ghost use mathlib.Core.Bool.{not, _&&_};
+ghost use mathlib.Core.Bool.{not};
 ghost use Prim.Native.Nat.{_≤_, _<_};
-ghost use lib.Dec.{leb, eqb};
+ghost use lib.Dec.{eqb};
 ghost use lib.ListN.{length};
 ghost use Rattle.basics.specs.Choice.{pick};
 ghost use Rattle.sheet.specs.Limits.{mostRows};
 ghost use Rattle.sheet.specs.Sheet.{leastRows};
+ghost use Rattle.side_scan.specs.Step.{notBegun};
 ghost use Rattle.leaves_score.specs.Scan.{scanColumn, perfect, scanned, sidesOf};
 ghost use Rattle.leaves_score.specs.Kept.{BothAlike};
-ghost use Rattle.leaves_score.specs.Lists.{sheetOf, goLeft, Numbered, bothAt, ReadyColumn, Found, ReadySide, walked, ReadyRows, partedOf, Scannable};
+ghost use Rattle.leaves_score.specs.Lists.{sheetOf, goLeft, Numbered, bothAt, bothSkip, ReadyColumn, Found, ReadySide, walked, ReadyRows, partedOf, Scannable};
 use sheet::MOST_LABELS;
 use sheet::MOST_ROWS;
 use sheet::Size;
 use side_scan::Best;
+use side_scan::Share;
 use side_scan::SideScan;
+use side_scan::Stand;
+use side_scan::score_cut;
+use side_scan::split_at;
 use tree::Side;
 
 // The left side is number 0, the right side number 1.
@@ -33,12 +38,6 @@ pub struct Sides {
 pub struct Two {
     pub left: SideScan,
     pub right: SideScan,
-}
-
-// The best of each side.
-pub struct Bests {
-    pub left: Best,
-    pub right: Best,
 }
 
 // The rows of the two sides: of each label and in all, `own` and `size` of the left one, `other` and `rest` of the right one.
@@ -67,79 +66,67 @@ fn side_number(side: u8) -> usize
     side as usize
 }
 
-// No side has a cut to come that could be taken.
-fn is_over(until: u32, size: u32, end: u32, rest: u32) -> bool
-    ensures { λ r. ⌜ r ≡ (leb size until && leb rest end) ⌝ }
+// A side before the first row of a column.
+fn not_begun() -> Stand
+    ensures { λ r. ⌜ r ≡ notBegun ⌝ }
 {
-    if size <= until { rest <= end } else { false }
+    Stand {
+        counted: 0,
+        until: 0,
+        last: 0,
+    }
+}
+
+// No side has a cut to come that could be taken.
+fn is_over(stand: [Stand; SIDES], share: [Share; SIDES]) -> bool
+    ensures { λ r. ⌜ r ≡ bothSkip stand share ⌝ }
+{
+    if share[0].size <= stand[0].until {
+        share[1].size <= stand[1].until
+    } else {
+        false
+    }
 }
 
 // The rows of a column, both sides in one pass. What a row changes lies by the side's number, so that no row waits for the guess of its side.
 fn scan_rows(
     own: &[[u16; MOST_LABELS]; SIDES],
-    sizes: [u32; SIDES],
-    least: u32,
-    first: Best,
-    second: Best,
+    share: [Share; SIDES],
+    mut best: [Best; SIDES],
     size: Size,
     column: usize,
     values: &[f64],
     codes: &[u8],
     order: &[u16],
     sides: &[u8; MOST_ROWS],
-) -> Bests
-    requires { ⌜ ReadyColumn (sheetOf size (now values) (now codes) (now order)) (now sides) column (bothAt (now own) sizes (size .labels) least first second) ⌝ }
-    ensures { λ r. ⌜ Found (sheetOf size (now (values .entry)) (now (codes .entry)) (now (order .entry))) (now (sides .entry)) column (bothAt (now (own .entry)) sizes (size .labels) least first second) r ⌝ }
+) -> [Best; SIDES]
+    requires { ⌜ ReadyColumn (sheetOf size (now values) (now codes) (now order)) (now sides) column (bothAt (now own) share best) ⌝ }
+    ensures { λ r. ⌜ Found (sheetOf size (now (values .entry)) (now (codes .entry)) (now (order .entry))) (now (sides .entry)) column (bothAt (now (own .entry)) share best) r ⌝ }
 {
-    let mut bests: [Best; SIDES] = [first, second];
     let mut seen: [[u16; MOST_LABELS]; SIDES] = [[0; MOST_LABELS]; SIDES];
-    let mut counted: [u32; SIDES] = [0; SIDES];
-    let mut until: [u32; SIDES] = [0; SIDES];
-    let mut last: [usize; SIDES] = [0; SIDES];
+    let mut stand: [Stand; SIDES] = [not_begun(); SIDES];
     let base = column * size.rows;
     let mut i: usize = 0;
     while i < size.rows {
         let row = row_number(order[base + i]);
         let label = label_number(codes[row]);
         let side = side_number(sides[row]);
-        let was = counted[side];
-        if !side_scan::is_passed(values, base, row, last[side], was, until[side]) {
-            let best = bests[side];
-            let cut = side_scan::score_cut(
-                &own[side],
-                &seen[side],
-                size.labels,
-                was,
-                sizes[side],
-                least,
-                best.score,
-            );
-            let peaks = cut.peaks;
+        let was = stand[side];
+        if !side_scan::is_passed(values, base, row, was) {
+            let cut = score_cut(&own[side], &seen[side], share[side], was, best[side].score);
             if cut.taken {
-                bests[side] = side_scan::split_at(
-                    peaks,
-                    was,
-                    sizes[side],
-                    column,
-                    values,
-                    base,
-                    last[side],
-                    row,
-                );
+                best[side] = split_at(cut.peaks, share[side], was, column, values, base, row);
             }
-            until[side] = cut.until;
-            if is_over(until[0], sizes[0], until[1], sizes[1]) {
+            stand[side].until = cut.until;
+            if is_over(stand, share) {
                 break;
             }
         }
         seen[side][label] = seen[side][label] + 1;
-        counted[side] = was + 1;
-        last[side] = row;
+        stand[side] = side_scan::count_row(stand[side], row);
         i += 1;
     }
-    let left = bests[0];
-    let right = bests[1];
-    Bests { left, right }
+    best
 }
 
 // Whether a row whose side has that number is of the side asked for.
@@ -216,26 +203,13 @@ fn scan_many(
     let mine = left.own;
     let theirs = right.own;
     let own = [mine, theirs];
-    let sizes = [left.size, right.size];
+    let share = [side_scan::share_of(left), side_scan::share_of(right)];
     let first = left.best;
     let second = right.best;
-    let bests = scan_rows(
-        &own,
-        sizes,
-        left.least,
-        first,
-        second,
-        size,
-        column,
-        values,
-        codes,
-        order,
-        sides,
-    );
-    let best = bests.left;
-    let other = bests.right;
-    left.best = best;
-    right.best = other;
+    let best = [first, second];
+    let found = scan_rows(&own, share, best, size, column, values, codes, order, sides);
+    left.best = found[0];
+    right.best = found[1];
     Two { left, right }
 }
 

@@ -15,6 +15,8 @@ use Rattle.side_scan.specs.declared.Peaks.{Peaks}
 use Rattle.side_scan.specs.declared.Peak.{Peak}
 use Rattle.side_scan.specs.declared.Verdict.{Verdict}
 use Rattle.side_scan.specs.declared.Cut.{Cut}
+use Rattle.side_scan.specs.declared.Share.{Share}
+use Rattle.side_scan.specs.declared.Stand.{Stand}
 use Rattle.side_scan.specs.declared.SideScan.{SideScan}
 use Rattle.side_scan.specs.Commonest.{commonest, mostOf}
 use Rattle.side_scan.specs.OneSide.{nought, noRows, leafBest, before, later, rowsLeft}
@@ -80,6 +82,15 @@ abbrev pub Steppable : SideScan → ℕ → Type 0
 Steppable t label = t .closed ≡ false → Ready t label
 
 -- ---- the same with no skip: the count up to which a side's rows are skipped stands for it, and the row of the previous value for that value
+
+abbrev pub shareOf : SideScan → Share
+shareOf t = record { size = t .size; labels = t .labels; least = t .least }
+
+abbrev pub notBegun : Stand
+notBegun = record { counted = 0; until = 0; last = 0 }
+
+abbrev pub standAfter : Stand → ℕ → Stand
+standAfter stand row = record { counted = stand .counted + 1; until = stand .until; last = row }
 
 -- the row is only counted
 unfoldable pub passed : List Float → ℕ → ℕ → ℕ → ℕ → ℕ → Bool

@@ -8,7 +8,7 @@ ghost use lib.Ieee.{nan, eq};
 ghost use lib.ListN.{length, getD};
 ghost use Rattle.sheet.specs.Limits.{mostLabels, mostRows};
 ghost use Rattle.side_scan.specs.OneSide.{cleared, fallen, stepOf, sideOf};
-ghost use Rattle.side_scan.specs.Step.{Countable, peaksOf, verdictOf, splitBy, Steppable, passed, untilAfter, Scorable, cutOf, peakOf, leafScan, Sized};
+ghost use Rattle.side_scan.specs.Step.{Countable, peaksOf, verdictOf, splitBy, Steppable, shareOf, standAfter, passed, untilAfter, Scorable, cutOf, peakOf, leafScan, Sized};
 use sheet::MOST_LABELS;
 use tree::Side;
 
@@ -38,6 +38,20 @@ pub struct SideScan {
     pub closed: bool,
     pub started: bool,
     pub previous: f64,
+}
+
+// A side's share of the sheet: how many rows it has, how many labels the sheet has, and how many rows each part of a split must have.
+pub struct Share {
+    pub size: u32,
+    pub labels: usize,
+    pub least: u32,
+}
+
+// Where a side stands in a column: the rows counted, the count up to which its rows are skipped, and the last row counted.
+pub struct Stand {
+    pub counted: u32,
+    pub until: u32,
+    pub last: usize,
 }
 
 // The best counts of the labels before a cut and from it on, and the labels that have them.
@@ -267,22 +281,41 @@ pub fn restart(mut side: SideScan) -> SideScan
     side
 }
 
-// Whether a row is only counted: it is skipped, for its side counts `until` rows first, or its value is the side's previous one, that of row `last`.
-pub fn is_passed(
-    values: &[f64],
-    base: usize,
-    row: usize,
-    last: usize,
-    counted: u32,
-    until: u32,
-) -> bool
-    requires { ⌜ (base + last < length (now values)) × (base + row < length (now values)) × (counted < mostRows) ⌝ }
-    ensures { λ r. ⌜ r ≡ passed (now (values .entry)) base row last counted until ⌝ }
+pub fn share_of(side: SideScan) -> Share
+    ensures { λ r. ⌜ r ≡ shareOf side ⌝ }
 {
-    if counted + 1 < until {
+    Share {
+        size: side.size,
+        labels: side.labels,
+        least: side.least,
+    }
+}
+
+// A row is counted.
+pub fn count_row(stand: Stand, row: usize) -> Stand
+    requires { ⌜ stand .counted < mostRows ⌝ }
+    ensures { λ r. ⌜ r ≡ standAfter stand row ⌝ }
+{
+    Stand {
+        counted: stand.counted + 1,
+        until: stand.until,
+        last: row,
+    }
+}
+
+// Whether a row is only counted: it is skipped, for its side counts `until` rows first, or its value is the side's previous one, that of row `last`.
+pub fn is_passed(values: &[f64], base: usize, row: usize, stand: Stand) -> bool
+    requires { ⌜ (base + stand .last < length (now values)) × (base + row < length (now values)) × (stand .counted < mostRows) ⌝ }
+    ensures { λ r. ⌜ r ≡ passed (now (values .entry)) base row (stand .last) (stand .counted) (stand .until) ⌝ }
+{
+    if stand.counted + 1 < stand.until {
         return true;
     }
-    is_same(0 < counted, values[base + last], values[base + row])
+    is_same(
+        0 < stand.counted,
+        values[base + stand.last],
+        values[base + row],
+    )
 }
 
 // The count up to which a side's rows are skipped after a cut: past all of its rows if it closes.
@@ -301,18 +334,17 @@ fn until_after(verdict: Verdict, next: u32, size: u32) -> u32
 pub fn score_cut(
     own: &[u16; MOST_LABELS],
     seen: &[u16; MOST_LABELS],
-    labels: usize,
-    counted: u32,
-    size: u32,
-    least: u32,
+    share: Share,
+    stand: Stand,
     score: u32,
 ) -> Cut
-    requires { ⌜ Scorable (now own) (now seen) labels counted size ⌝ }
-    ensures { λ r. ⌜ r ≡ cutOf (now (own .entry)) (now (seen .entry)) labels counted size least score ⌝ }
+    requires { ⌜ Scorable (now own) (now seen) (share .labels) (stand .counted) (share .size) ⌝ }
+    ensures { λ r. ⌜ r ≡ cutOf (now (own .entry)) (now (seen .entry)) (share .labels) (stand .counted) (share .size) (share .least) score ⌝ }
 {
-    let peaks = find_peaks(own, seen, labels);
-    let verdict = judge(peaks, counted, size - counted, least, score, 0);
-    let until = until_after(verdict, counted + 1, size);
+    let peaks = find_peaks(own, seen, share.labels);
+    let rest = share.size - stand.counted;
+    let verdict = judge(peaks, stand.counted, rest, share.least, score, 0);
+    let until = until_after(verdict, stand.counted + 1, share.size);
     Cut {
         peaks,
         taken: verdict.taken,
@@ -323,20 +355,20 @@ pub fn score_cut(
 // The split of the cut between two rows.
 pub fn split_at(
     peaks: Peaks,
-    counted: u32,
-    size: u32,
+    share: Share,
+    stand: Stand,
     column: usize,
     values: &[f64],
     base: usize,
-    last: usize,
     row: usize,
 ) -> Best
-    requires { ⌜ (peaks .before ≤ counted) × (counted ≤ size) × (peaks .after ≤ size - counted) × (size ≤ mostRows) × (base + last < length (now values)) × (base + row < length (now values)) ⌝ }
-    ensures { λ r. ⌜ r ≡ splitBy peaks counted (size - counted) column (getD (now (values .entry)) (base + last) nan) (getD (now (values .entry)) (base + row) nan) ⌝ }
+    requires { ⌜ (peaks .before ≤ stand .counted) × (stand .counted ≤ share .size) × (peaks .after ≤ share .size - stand .counted) × (share .size ≤ mostRows) × (base + stand .last < length (now values)) × (base + row < length (now values)) ⌝ }
+    ensures { λ r. ⌜ r ≡ splitBy peaks (stand .counted) (share .size - stand .counted) column (getD (now (values .entry)) (base + stand .last) nan) (getD (now (values .entry)) (base + row) nan) ⌝ }
 {
-    let previous = values[base + last];
+    let previous = values[base + stand.last];
     let value = values[base + row];
-    split_of(peaks, counted, size - counted, column, previous, value)
+    let rest = share.size - stand.counted;
+    split_of(peaks, stand.counted, rest, column, previous, value)
 }
 
 // The commonest label of a side, and how many rows it has. Before a row is counted all are to come.

@@ -35,7 +35,7 @@ is-same-requires c κs = search needs
 
 returns-2 : tie.Need-returns-2
 unfolding passed
-returns-2 c = simp (le-ltb _ _ (c .before .before .before .if1 .left)) (c .is-same .ensures)
+returns-2 c = simp (le-ltb _ _ (c .before .before .before .before .before .if1 .left)) (c .is-same .ensures)
 
 pub is-passed-spec : {M : Type 1} → statement M
 is-passed-spec =

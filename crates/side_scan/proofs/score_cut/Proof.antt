@@ -9,18 +9,18 @@ use Rattle.side_scan.proofs.score_cut.Tie as tie
 find-peaks-requires : tie.Need-find-peaks-requires
 find-peaks-requires c κs = search needs
 
-sub-judge : tie.Need-sub-judge
-sub-judge c = search needs
+sub-rest : tie.Need-sub-rest
+sub-rest c = search needs
 
 judge-requires : tie.Need-judge-requires
 judge-requires c κs =
-    let k = c .find-peaks in
-    let a = c .before .args in
-    let h = c .before .pre in
+    let k = c .before .before .find-peaks in
+    let a = c .before .before .before .args in
+    let h = c .before .before .before .pre in
     omega (
       arith,
-      first-in (a .own .now) (a .seen .now) (a .labels) (a .counted) (a .size) h (k .result) (k .ensures),
-      second-in (a .own .now) (a .seen .now) (a .labels) (a .counted) (a .size) h (k .result) (k .ensures),
+      first-in (a .own .now) (a .seen .now) (a .share .labels) (a .stand .counted) (a .share .size) h (k .result) (k .ensures),
+      second-in (a .own .now) (a .seen .now) (a .share .labels) (a .stand .counted) (a .share .size) h (k .result) (k .ensures),
       h .more,
       h .small,
     )
@@ -30,24 +30,30 @@ add-until-after c = search needs
 
 until-after-requires : tie.Need-until-after-requires
 until-after-requires c κs =
-    let a = c .before .before .args in
-    let h = c .before .before .pre in (
+    let k = c .before .before .before .before .find-peaks in
+    let a = c .before .before .before .before .before .args in
+    let h = c .before .before .before .before .before .pre in (
       h .small,
-      λ e. omega (arith, h .more, skips-less (c .before .find-peaks .result) (a .counted) (a .size - a .counted) (a .least) (a .score) 0 (c .judge .result) (c .judge .ensures) e),
+      λ e. omega (
+        arith,
+        h .more,
+        skips-less (k .result) (a .stand .counted) (a .share .size - a .stand .counted) (a .share .least) (a .score) 0 (c .before .judge .result) (c .before .judge .ensures) e,
+      ),
     )
 
 returns : tie.Need-returns
 returns c =
-    let a = c .before .before .before .args in
-    cut-is (a .own .now) (a .seen .now) (a .labels) (a .counted) (a .size) (a .least) (a .score) (c .before .before .find-peaks .result) (c .before .judge .result) (c .until-after .result)
-    (c .before .before .find-peaks .ensures) (c .before .judge .ensures) (c .until-after .ensures)
+    let k = c .before .before .before .before .before .find-peaks in
+    let a = c .before .before .before .before .before .before .args in
+    cut-is (a .own .now) (a .seen .now) (a .share .labels) (a .stand .counted) (a .share .size) (a .share .least) (a .score) (k .result) (c .before .before .judge .result) (c .until-after .result)
+    (k .ensures) (c .before .before .judge .ensures) (c .until-after .ensures)
 
 pub score-cut-spec : {M : Type 1} → statement M
 score-cut-spec =
     tie.close
     (tie.spec
     find-peaks-requires
-    sub-judge
+    sub-rest
     judge-requires
     add-until-after
     until-after-requires
