@@ -35,6 +35,21 @@ pub enum Read {
     Sheet { head: Head },
 }
 
+// Where the header's numbers begin, after its two mark bytes, and where it ends.
+const ROWS_AT: usize = 2;
+
+const COLUMNS_AT: usize = 4;
+
+const LABELS_AT: usize = 5;
+
+const SUPPORT_AT: usize = 6;
+
+const GAP_AT: usize = 8;
+
+const ERROR_AT: usize = 12;
+
+const BOUND_AT: usize = 16;
+
 const HEAD_SIZE: usize = 20;
 
 const ROW_FIXED: usize = 3;
@@ -116,13 +131,13 @@ fn head_of(bytes: &[u8]) -> Head
     ensures { λ r. ⌜ r ≡ headOf (now (bytes .entry)) ⌝ }
 {
     Head {
-        rows: pair_at(bytes, 2) as usize,
-        columns: byte_at(bytes, 4) as usize,
-        labels: byte_at(bytes, 5) as usize,
-        support: pair_at(bytes, 6) as u32,
-        gap: quad_at(bytes, 8) as u32,
-        error: quad_at(bytes, 12) as u32,
-        bound: quad_at(bytes, 16) as u32,
+        rows: pair_at(bytes, ROWS_AT) as usize,
+        columns: byte_at(bytes, COLUMNS_AT) as usize,
+        labels: byte_at(bytes, LABELS_AT) as usize,
+        support: pair_at(bytes, SUPPORT_AT) as u32,
+        gap: quad_at(bytes, GAP_AT) as u32,
+        error: quad_at(bytes, ERROR_AT) as u32,
+        bound: quad_at(bytes, BOUND_AT) as u32,
     }
 }
 
