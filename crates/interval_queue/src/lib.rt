@@ -18,6 +18,13 @@ pub struct Popped {
     pub queue: Queue,
 }
 
+// An interval's words: its first cut, its last, and the cuts remembered on its left and on its right.
+const LAST: usize = 1;
+
+const LEFT: usize = 2;
+
+const RIGHT: usize = 3;
+
 const WORDS: usize = 4;
 
 const LARGEST_WORD: usize = 0xffff_ffff;
@@ -81,20 +88,20 @@ fn store(words: &mut [u32], at: usize, bound: Bound)
     let left = bound.left;
     let right = bound.right;
     words[at] = word(bound.first);
-    words[at + 1] = word(bound.last);
-    words[at + 2] = mark(left);
-    words[at + 3] = mark(right);
+    words[at + LAST] = word(bound.last);
+    words[at + LEFT] = mark(left);
+    words[at + RIGHT] = mark(right);
 }
 
 fn load(words: &[u32], at: usize) -> Bound
     requires { ⌜ at + 4 ≤ length (now words) ⌝ }
     ensures { λ r. ⌜ r ≡ loaded (now (words .entry)) at ⌝ }
 {
-    let left = cut(words[at + 2]);
-    let right = cut(words[at + 3]);
+    let left = cut(words[at + LEFT]);
+    let right = cut(words[at + RIGHT]);
     Bound {
         first: wide(words[at]),
-        last: wide(words[at + 1]),
+        last: wide(words[at + LAST]),
         left,
         right,
     }
