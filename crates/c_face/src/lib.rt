@@ -201,7 +201,7 @@ fn side_words(side: Side) -> [u64; SIDE_WORDS]
             lost,
             missed,
         } => {
-            let bits = listing::bits_of(threshold);
+            let bits = digits::bits_of(threshold);
             let first = lost as u64;
             let second = missed as u64;
             [
@@ -223,7 +223,7 @@ fn found_words(tree: Tree, tried: u32) -> [u64; SEARCH_WORDS]
     let error = tree.error as u64;
     let tries = tried as u64;
     let column = tree.column as u64;
-    let bits = listing::bits_of(tree.threshold);
+    let bits = digits::bits_of(tree.threshold);
     let left = tree.left;
     let right = tree.right;
     let l = side_words(left);

@@ -13,12 +13,12 @@ use Rattle.tree.specs.declared.Side.{Side}
 use Rattle.tree.specs.declared.Side.the-variants.{Leaf, Split}
 use Rattle.tree.specs.declared.Answer.{Answer}
 use Rattle.tree.specs.declared.Answer.the-variants.{TurnedBack, Kept, Found}
-use Rattle.listing.specs.Digits.{decimalOf, hexOf}
-use Rattle.listing.specs.Put.{Put}
+use Rattle.digits.specs.Digits.{decimalOf, hexOf}
+use Rattle.digits.specs.Put.{Put}
 use Rattle.listing.specs.Words.{foundErrorWord, keptErrorWord, refusedWord, placeWord, columnWord, spotWord, triedWord, leafLabelWord, errorWord, splitColumnWord, leftWord, rightWord, slashWord, newlineWord, leftMark, rightMark}
 use Rattle.listing.specs.Listing.{field, spotOf, scoreOf, leafOf, splitOf, sideOf, foundOf, keptOf, refusedOf, ruleOf, listingOf, longest, writtenOf, outOf, RoomForEvery}
-use Rattle.listing.proofs.Puts.{length-digits}
-use Rattle.listing.proofs.Decimal.{decimal-most}
+use Rattle.digits.proofs.Puts.{length-digits}
+use Rattle.digits.proofs.Decimal.{decimal-most}
 
 -- two parts, each with its room
 both : (xs ys : List ℕ) {m n : ℕ} → length xs ≤ m → length ys ≤ n → length (xs ++ ys) ≤ m + n

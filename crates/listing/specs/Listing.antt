@@ -1,17 +1,16 @@
--- The text of an answer (document 01, "Program (added)"). Definitions, and two laws as statements; `proofs/` proves them.
-use mathlib.Core.Path.{_≡_}
+-- The text of an answer (document 01, "Program (added)"). Definitions, and a law as a statement; `proofs/` proves it.
 use Prim.Native.Nat.{ℕ, _≤_}
 use mathlib.Core.List.{List, _∷_, _++_}
 use lib.ListN.{length, drop}
 use lib.Dec.{leb}
-use lib.Ieee.{Float, nan, binary64, toBits}
+use lib.Ieee.{Float, binary64, toBits}
 use Rattle.basics.specs.Choice.{pick}
 use Rattle.tree.specs.declared.Side.{Side}
 use Rattle.tree.specs.declared.Side.the-variants.{Leaf, Split}
 use Rattle.tree.specs.declared.Tree.{Tree}
 use Rattle.tree.specs.declared.Answer.{Answer}
 use Rattle.tree.specs.declared.Answer.the-variants.{TurnedBack, Kept, Found}
-use Rattle.listing.specs.Digits.{decimalOf, hexOf}
+use Rattle.digits.specs.Digits.{decimalOf, hexOf}
 use Rattle.listing.specs.Words.{foundErrorWord, keptErrorWord, refusedWord, placeWord, columnWord, spotWord, triedWord, leafLabelWord, errorWord, splitColumnWord, leftWord, rightWord, slashWord, newlineWord, leftMark, rightMark}
 
 -- a word and a number: ` column=0`
@@ -80,7 +79,3 @@ outOf answer out = pick (leb longest (length out)) (listingOf answer ++ drop (le
 -- there is room for every answer's listing, whatever its numbers
 abbrev pub RoomForEvery : Type 0
 RoomForEvery = (answer : Answer) → length (listingOf answer) ≤ longest
-
--- what a NaN prints as
-abbrev pub NanBits : Type 0
-NanBits = toBits binary64 nan ≡ 0x7FF8000000000000

@@ -1,10 +1,9 @@
 // An answer as text, in the words of document 01.
 ghost use mathlib.Core.Path.{_≡_};
-ghost use Prim.Native.Nat.{_+_, _≤_, _<_};
+ghost use Prim.Native.Nat.{_+_, _≤_};
 ghost use lib.ListN.{length};
-ghost use lib.Ieee.{binary64, toBits};
-ghost use Rattle.listing.specs.Digits.{digitOf, digitsOf, placesOf, decimalOf, mostPlaces};
-ghost use Rattle.listing.specs.Put.{Put};
+ghost use Rattle.digits.specs.Digits.{mostPlaces};
+ghost use Rattle.digits.specs.Put.{Put};
 ghost use Rattle.listing.specs.Listing.{field, spotOf, scoreOf, leafOf, splitOf, sideOf, foundOf, keptOf, refusedOf, ruleOf, writtenOf, outOf, longest};
 use tree::Answer;
 use tree::Side;
@@ -17,85 +16,14 @@ const LEFT_MARK: u8 = b'L';
 
 const RIGHT_MARK: u8 = b'R';
 
-const HEX_PLACES: usize = 16;
-
-// What stands for a NaN, which has no bits of its own.
-const NAN_BITS: u64 = 0x7FF8_0000_0000_0000;
-
-fn digit(d: u64) -> u8
-    requires { ⌜ d < 16 ⌝ }
-    ensures { λ r. ⌜ r ≡ digitOf d ⌝ }
-{
-    if d < 10 {
-        b'0' + d as u8
-    } else {
-        b'A' - 10 + d as u8
-    }
-}
-
-// How many decimal digits n has.
-fn places(n: u64) -> usize
-    ensures { λ r. ⌜ r ≡ placesOf n ⌝ }
-{
-    let mut count: usize = 1;
-    let mut rest = n / 10;
-    while rest > 0 {
-        rest /= 10;
-        count += 1;
-    }
-    count
-}
-
-fn put_bytes(out: &mut [u8], at: usize, text: &[u8]) -> usize
-    requires { ⌜ at + length (now text) ≤ length (now out) ⌝ }
-    ensures { λ r. ⌜ Put (now (out .entry)) at (now (text .entry)) r (now (out .exit)) ⌝ }
-{
-    let mut done: usize = 0;
-    while done < text.len() {
-        out[at + done] = text[done];
-        done += 1;
-    }
-    at + done
-}
-
-// From the last digit to the first.
-fn put_digits(out: &mut [u8], at: usize, base: u64, count: usize, n: u64) -> usize
-    requires { ⌜ (2 ≤ base) × (base ≤ 16) × (at + count ≤ length (now out)) ⌝ }
-    ensures { λ r. ⌜ Put (now (out .entry)) at (digitsOf base count n) r (now (out .exit)) ⌝ }
-{
-    let mut left = count;
-    let mut rest = n;
-    while left > 0 {
-        left -= 1;
-        out[at + left] = digit(rest % base);
-        rest /= base;
-    }
-    at + count
-}
-
-fn put_decimal(out: &mut [u8], at: usize, n: u64) -> usize
-    requires { ⌜ at + mostPlaces ≤ length (now out) ⌝ }
-    ensures text { λ r. ⌜ Put (now (out .entry)) at (decimalOf n) r (now (out .exit)) ⌝ }
-    ensures room { λ r. ⌜ r ≤ at + mostPlaces ⌝ }
-{
-    put_digits(out, at, 10, places(n), n)
-}
-
 // A word and a number. The room that this and the functions below ask for is their words' lengths, with twenty digits for each number.
 fn put_field(out: &mut [u8], at: usize, word: &[u8], n: u64) -> usize
     requires { ⌜ at + length (now word) + mostPlaces ≤ length (now out) ⌝ }
     ensures text { λ r. ⌜ Put (now (out .entry)) at (field (now (word .entry)) n) r (now (out .exit)) ⌝ }
     ensures room { λ r. ⌜ r ≤ at + length (now (word .entry)) + mostPlaces ⌝ }
 {
-    let after = put_bytes(out, at, word);
-    put_decimal(out, after, n)
-}
-
-// A double's bits.
-pub fn bits_of(x: f64) -> u64
-    ensures { λ r. ⌜ r ≡ toBits binary64 x ⌝ }
-{
-    if x == x { f64::to_bits(x) } else { NAN_BITS }
+    let after = digits::put_bytes(out, at, word);
+    digits::put_decimal(out, after, n)
 }
 
 fn put_threshold(out: &mut [u8], at: usize, threshold: f64) -> usize
@@ -103,8 +31,8 @@ fn put_threshold(out: &mut [u8], at: usize, threshold: f64) -> usize
     ensures text { λ r. ⌜ Put (now (out .entry)) at (spotOf threshold) r (now (out .exit)) ⌝ }
     ensures room { λ r. ⌜ r ≡ at + 20 ⌝ }
 {
-    let after = put_bytes(out, at, b" at=");
-    put_digits(out, after, 16, HEX_PLACES, bits_of(threshold))
+    let after = digits::put_bytes(out, at, b" at=");
+    digits::put_hex(out, after, digits::bits_of(threshold))
 }
 
 // A word, a label and its error.
@@ -125,7 +53,7 @@ fn put_leaf(out: &mut [u8], at: usize, label: usize, error: u32) -> usize
 {
     let labelled = put_field(out, at, b" LEAF label=", label as u64);
     let scored = put_field(out, labelled, b" error=", error as u64);
-    put_bytes(out, scored, b"\n")
+    digits::put_bytes(out, scored, b"\n")
 }
 
 // Past a split's mark.
@@ -147,7 +75,7 @@ fn put_split(
     let parted = put_threshold(out, named, threshold);
     let scored = put_score(out, parted, b" left=", left, lost);
     let both = put_score(out, scored, b" right=", right, missed);
-    put_bytes(out, both, b"\n")
+    digits::put_bytes(out, both, b"\n")
 }
 
 fn put_side(out: &mut [u8], at: usize, mark: u8, side: Side) -> usize
@@ -185,7 +113,7 @@ fn put_found(
     let named = put_field(out, scored, b" column=", column as u64);
     let parted = put_threshold(out, named, threshold);
     let counted = put_field(out, parted, b" tried=", tried as u64);
-    put_bytes(out, counted, b"\n")
+    digits::put_bytes(out, counted, b"\n")
 }
 
 fn put_rule(out: &mut [u8], tree: Tree, tried: u32) -> usize
@@ -205,7 +133,7 @@ fn put_kept(out: &mut [u8], error: u32, tried: u32) -> usize
 {
     let scored = put_field(out, 0, b"KEPT error=", error as u64);
     let counted = put_field(out, scored, b" tried=", tried as u64);
-    put_bytes(out, counted, b"\n")
+    digits::put_bytes(out, counted, b"\n")
 }
 
 fn put_refused(out: &mut [u8], number: u32, place: usize) -> usize
@@ -214,7 +142,7 @@ fn put_refused(out: &mut [u8], number: u32, place: usize) -> usize
 {
     let numbered = put_field(out, 0, b"REFUSED ", number as u64);
     let placed = put_field(out, numbered, b" place=", place as u64);
-    put_bytes(out, placed, b"\n")
+    digits::put_bytes(out, placed, b"\n")
 }
 
 // The answer's listing at the start of `out`, and its length. Nothing is written where there is no room for every listing.

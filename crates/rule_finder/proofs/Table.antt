@@ -18,7 +18,7 @@ use Rattle.row_sort.specs.Sorting.{rowsFrom, insert, sorted}
 use Rattle.prepare.specs.Prepared as prepared
 use Rattle.sheet_bytes.specs.Bytes.{numberAt, marked}
 use Rattle.sheet_bytes.specs.Read as read
-use Rattle.listing.specs.Digits as digits
+use Rattle.digits.specs.Digits as digits
 use Rattle.listing.specs.Listing as listing
 use Rattle.listing.specs.Table.{entry1, entry2, entry3, entry4}
 use Rattle.rule_finder.specs.Run.{answerTo, runOf}

@@ -1,7 +1,7 @@
 -- `listing::put_kept` meets its contract: its parts are stored one after the other. Assumes nothing.
 use borrow.Author.Needs.{needs}
 use Rattle.listing.specs.Listing.{keptOf}
-use Rattle.listing.proofs.Puts.{joined}
+use Rattle.digits.proofs.Puts.{joined}
 use Rattle.listing.proofs.put_kept.Statement.{statement}
 use Rattle.listing.proofs.put_kept.Tie as tie
 

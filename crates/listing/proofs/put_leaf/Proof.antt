@@ -2,7 +2,7 @@
 use native.Mathlib.Omega.{arith}
 use borrow.Author.Needs.{needs}
 use Rattle.listing.specs.Listing.{leafOf}
-use Rattle.listing.proofs.Puts.{joined}
+use Rattle.digits.proofs.Puts.{joined}
 use Rattle.listing.proofs.put_leaf.Statement.{statement}
 use Rattle.listing.proofs.put_leaf.Tie as tie
 

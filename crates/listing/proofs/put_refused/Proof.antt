@@ -1,7 +1,7 @@
 -- `listing::put_refused` meets its contract: its parts are stored one after the other. Assumes nothing.
 use borrow.Author.Needs.{needs}
 use Rattle.listing.specs.Listing.{refusedOf}
-use Rattle.listing.proofs.Puts.{joined}
+use Rattle.digits.proofs.Puts.{joined}
 use Rattle.listing.proofs.put_refused.Statement.{statement}
 use Rattle.listing.proofs.put_refused.Tie as tie
 

@@ -2,7 +2,7 @@
 use native.Mathlib.Omega.{arith}
 use borrow.Author.Needs.{needs}
 use Rattle.listing.specs.Listing.{scoreOf}
-use Rattle.listing.proofs.Puts.{joined}
+use Rattle.digits.proofs.Puts.{joined}
 use Rattle.listing.proofs.put_score.Statement.{statement}
 use Rattle.listing.proofs.put_score.Tie as tie
 

@@ -4,9 +4,9 @@ use native.Mathlib.Omega.{arith}
 use borrow.Author.Needs.{needs}
 use lib.ListN.{length-set}
 use Rattle.tree.specs.declared.Side.{Side}
-use Rattle.listing.specs.Put.{Put}
+use Rattle.digits.specs.Put.{Put}
 use Rattle.listing.specs.Listing.{sideOf}
-use Rattle.listing.proofs.Puts.{joined, one}
+use Rattle.digits.proofs.Puts.{joined, one}
 use Rattle.listing.proofs.put_side.Statement.{statement}
 use Rattle.listing.proofs.put_side.Tie as tie
 

@@ -3,10 +3,10 @@ use mathlib.Core.Path.{subst}
 use Prim.Native.Nat.{ℕ}
 use native.Mathlib.Omega.{arith}
 use borrow.Author.Needs.{needs}
-use Rattle.listing.specs.Digits.{digitsOf, hexOf}
-use Rattle.listing.specs.Put.{Put}
+use Rattle.digits.specs.Digits.{hexOf}
+use Rattle.digits.specs.Put.{Put}
 use Rattle.listing.specs.Listing.{spotOf}
-use Rattle.listing.proofs.Puts.{joined, length-digits}
+use Rattle.digits.proofs.Puts.{joined}
 use Rattle.listing.proofs.put_threshold.Statement.{statement}
 use Rattle.listing.proofs.put_threshold.Tie as tie
 
@@ -19,19 +19,19 @@ put-bytes-requires c κs = search needs
 bits-of-requires : tie.Need-bits-of-requires
 bits-of-requires c κs = search needs
 
-put-digits-requires : tie.Need-put-digits-requires
-put-digits-requires c κs = search needs
+put-hex-requires : tie.Need-put-hex-requires
+put-hex-requires c κs = search needs
 
 same-length : tie.Need-same-length
 same-length c = search needs
 
 returns : tie.Need-returns
-unfolding spotOf hexOf
+unfolding spotOf
 returns c =
     let text = c .before .before .before .before .before .before .before .put-bytes in
-    let digits = c .before .before .put-digits in (
-      joined (text .ensures) (subst (λ (b : ℕ). Put (text .last .0) (text .result) (digitsOf 16 16 b) (digits .result) (digits .last .0)) (c .before .before .before .bits-of .ensures) (digits .ensures)),
-      omega (arith, length-digits 16 16 (c .before .before .before .bits-of .result)),
+    let digits = c .before .before .put-hex in (
+      joined (text .ensures) (subst (λ (b : ℕ). Put (text .last .0) (text .result) (hexOf b) (digits .result) (digits .last .0)) (c .before .before .before .bits-of .ensures) (digits .ensures .0)),
+      omega arith,
     )
 
 pub put-threshold-spec : {M : Type 1} → statement M
@@ -41,6 +41,6 @@ put-threshold-spec =
     slice-aggregate-put-bytes
     put-bytes-requires
     bits-of-requires
-    put-digits-requires
+    put-hex-requires
     same-length
     returns)

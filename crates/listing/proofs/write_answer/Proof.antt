@@ -3,7 +3,7 @@ use mathlib.Core.Path.{sym, subst}
 use native.Mathlib.Omega.{arith}
 use borrow.Author.Needs.{needs}
 use Rattle.tree.specs.declared.Answer.{Answer}
-use Rattle.listing.specs.Put.{Put}
+use Rattle.digits.specs.Put.{Put}
 use Rattle.listing.specs.Listing.{listingOf}
 use Rattle.listing.proofs.Room.{listed, left-out}
 use Rattle.listing.proofs.write_answer.Statement.{statement}

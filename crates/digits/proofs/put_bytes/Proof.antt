@@ -1,4 +1,4 @@
--- `listing::put_bytes` meets its contract. The loop's invariant: storing the bytes that are left from here on gives the whole. Assumes nothing.
+-- `digits::put_bytes` meets its contract. The loop's invariant: storing the bytes that are left from here on gives the whole. Assumes nothing.
 use mathlib.Core.Path.{_≡_, refl, sym, ap, _∙_}
 use Prim.Native.Nat.{ℕ, _+_, _-_, _≤_, _<_}
 use native.Mathlib.Omega.{arith}
@@ -6,9 +6,9 @@ use borrow.Author.Needs.{needs}
 use lib.ListN.{length, drop, length-set}
 use lib.Seq.{sets}
 use native.Mathlib.Nat.{add-zero}
-use Rattle.listing.proofs.Puts.{first, none-left}
-use Rattle.listing.proofs.put_bytes.Statement.{statement}
-use Rattle.listing.proofs.put_bytes.Tie as tie
+use Rattle.digits.proofs.Puts.{first, none-left}
+use Rattle.digits.proofs.put_bytes.Statement.{statement}
+use Rattle.digits.proofs.put_bytes.Tie as tie
 
 abbrev Inv-loop : tie.InvT-loop
 Inv-loop out₀ at text done₀ out done =

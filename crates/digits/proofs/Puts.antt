@@ -6,8 +6,8 @@ use native.Mathlib.Nat.{add-zero}
 use mathlib.Core.List.{List, [], _∷_, _++_}
 use lib.ListN.{length, getD, drop, set, length-append}
 use lib.Seq.{sets, set-comm, drop-cons, drop-length}
-use Rattle.listing.specs.Digits.{digitOf, digitsOf}
-use Rattle.listing.specs.Put.{Put}
+use Rattle.digits.specs.Digits.{digitOf, digitsOf}
+use Rattle.digits.specs.Put.{Put}
 
 -- ---- in two parts
 

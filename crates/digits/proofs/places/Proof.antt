@@ -1,11 +1,11 @@
--- `listing::places` meets its contract. The loop's invariant: n was divided `count` times by ten. Assumes nothing.
+-- `digits::places` meets its contract. The loop's invariant: n was divided `count` times by ten. Assumes nothing.
 use mathlib.Core.Path.{sym}
 use Prim.Native.Nat.{_<_}
 use native.Mathlib.Omega.{arith}
 use borrow.Author.Needs.{needs}
-use Rattle.listing.proofs.Decimal.{Counting, begun, divided, counted, fewer}
-use Rattle.listing.proofs.places.Statement.{statement}
-use Rattle.listing.proofs.places.Tie as tie
+use Rattle.digits.proofs.Decimal.{Counting, begun, divided, counted, fewer}
+use Rattle.digits.proofs.places.Statement.{statement}
+use Rattle.digits.proofs.places.Tie as tie
 
 abbrev Inv-loop : tie.InvT-loop
 Inv-loop n count₀ rest₀ count rest = Counting n count rest

@@ -1,15 +1,15 @@
--- `listing::put_decimal` meets its contract: the digits are as many as the number has. Assumes nothing.
+-- `digits::put_decimal` meets its contract: the digits are as many as the number has. Assumes nothing.
 use mathlib.Core.Path.{subst}
 use Prim.Native.Nat.{ℕ, _≤_}
 use native.Mathlib.Omega.{arith}
 use borrow.Author.Needs.{needs}
 use lib.Dec.{lit≤}
-use Rattle.listing.specs.Digits.{digitsOf, decimalOf}
-use Rattle.listing.specs.Put.{Put}
-use Rattle.listing.proofs.Puts.{length-digits}
-use Rattle.listing.proofs.Decimal.{places-most}
-use Rattle.listing.proofs.put_decimal.Statement.{statement}
-use Rattle.listing.proofs.put_decimal.Tie as tie
+use Rattle.digits.specs.Digits.{digitsOf, decimalOf}
+use Rattle.digits.specs.Put.{Put}
+use Rattle.digits.proofs.Puts.{length-digits}
+use Rattle.digits.proofs.Decimal.{places-most}
+use Rattle.digits.proofs.put_decimal.Statement.{statement}
+use Rattle.digits.proofs.put_decimal.Tie as tie
 
 places-requires : tie.Need-places-requires
 places-requires c κs = search needs

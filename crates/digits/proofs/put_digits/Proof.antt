@@ -1,4 +1,4 @@
--- `listing::put_digits` meets its contract. The loop's invariant: storing the digits that are left in front of here gives the whole. Assumes nothing.
+-- `digits::put_digits` meets its contract. The loop's invariant: storing the digits that are left in front of here gives the whole. Assumes nothing.
 use mathlib.Core.Path.{_≡_, refl, sym, ap, _∙_}
 use Prim.Native.Nat.{ℕ, _+_, _-_, _≤_, _<_}
 use native.Mathlib.Omega.{arith}
@@ -7,10 +7,10 @@ use lib.ListN.{length, set, length-set}
 use Prim.Native.Nat.{_/_}
 use native.Mathlib.Nat.{mod-lt}
 use lib.Seq.{sets}
-use Rattle.listing.specs.Digits.{digitsOf}
-use Rattle.listing.proofs.Puts.{last-digit, length-digits}
-use Rattle.listing.proofs.put_digits.Statement.{statement}
-use Rattle.listing.proofs.put_digits.Tie as tie
+use Rattle.digits.specs.Digits.{digitsOf}
+use Rattle.digits.proofs.Puts.{last-digit, length-digits}
+use Rattle.digits.proofs.put_digits.Statement.{statement}
+use Rattle.digits.proofs.put_digits.Tie as tie
 
 abbrev Inv-loop : tie.InvT-loop
 Inv-loop out₀ at base count n left₀ rest₀ out left rest =

@@ -6,12 +6,13 @@ use native.Mathlib.Nat.{div-add-mod', mod-lt, div-lt-iff-lt-mul, le-div-iff-mul-
 use mathlib.Core.List.{List, [], _∷_, _++_}
 use lib.ListN.{getD, List·getD-append}
 use lib.Dec.{ltb, ltb→lt, nltb→le}
+use lib.Ieee.{toBits}
 use Rattle.basics.specs.Walk.{walk}
 use Rattle.basics.proofs.Choice.{by-ltb, reach}
 use Rattle.basics.proofs.Walk.{walked}
-use Rattle.listing.specs.Digits.{digitOf, digitsOf, placesOf, decimalOf, hexOf, mostPlaces}
-use Rattle.listing.specs.Laws.{digitSaid, numberSaid, DecimalSays, NoLeadingZero, HexSays}
-use Rattle.listing.proofs.Puts.{length-digits}
+use Rattle.digits.specs.Digits.{digitOf, digitsOf, placesOf, decimalOf, hexOf, mostPlaces}
+use Rattle.digits.specs.Laws.{digitSaid, numberSaid, DecimalSays, NoLeadingZero, HexSays, NanBits}
+use Rattle.digits.proofs.Puts.{length-digits}
 
 -- ---- one digit
 
@@ -85,3 +86,9 @@ no-leading-zero n h l e =
     (subst (λ (k : ℕ). n < 10 ^ k) one-less (places-hold n h))
     (omega arith)
     (subst (λ (k : ℕ). getD (digitsOf 10 k n) 0 0 ≡ 48) one-less e)
+
+-- ---- a NaN
+
+pub nan-bits : NanBits
+unfolding toBits
+nan-bits = refl

@@ -1,4 +1,4 @@
--- `listing::bits_of` meets its contract: what equals itself is no NaN, and what does not is one. Assumes nothing.
+-- `digits::bits_of` meets its contract: what equals itself is no NaN, and what does not is one. Assumes nothing.
 use mathlib.Core.Path.{_≡_, refl, sym, ap, _∙_, subst}
 use Prim.Native.Nat.{ℕ, _*_}
 use borrow.Author.Needs.{needs}
@@ -6,8 +6,8 @@ use mathlib.Core.Bool.{Bool, true, false, not, _&&_, _||_, Bool·beq, true≢fal
 use lib.Dec.{T, eqb}
 use lib.Ieee.{Float, nan, inf, fin, binary64, eq, isNan, toBits, level, up, down}
 use borrow.Author.Tests.{eq-eqb}
-use Rattle.listing.proofs.bits_of.Statement.{statement}
-use Rattle.listing.proofs.bits_of.Tie as tie
+use Rattle.digits.proofs.bits_of.Statement.{statement}
+use Rattle.digits.proofs.bits_of.Tie as tie
 
 number : (x : Float) → T (eq x x) → T (not (isNan x))
 unfolding eq isNan

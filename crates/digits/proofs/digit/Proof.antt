@@ -1,13 +1,13 @@
--- `listing::digit` meets its contract. Assumes nothing.
+-- `digits::digit` meets its contract. Assumes nothing.
 use mathlib.Core.Path.{sym}
 use Prim.Native.Nat.{_+_}
 use native.Mathlib.Omega.{arith}
 use borrow.Author.Needs.{needs}
 use lib.Dec.{ltb, lt→ltb, not-T, ltb→lt}
 use Rattle.basics.proofs.Choice.{pick-true, pick-false}
-use Rattle.listing.specs.Digits.{digitOf}
-use Rattle.listing.proofs.digit.Statement.{statement}
-use Rattle.listing.proofs.digit.Tie as tie
+use Rattle.digits.specs.Digits.{digitOf}
+use Rattle.digits.proofs.digit.Statement.{statement}
+use Rattle.digits.proofs.digit.Tie as tie
 
 cast-result : tie.Need-cast-result
 cast-result c = search needs

@@ -8,8 +8,8 @@ use lib.ListN.{length}
 use lib.Dec.{ltb, lt→ltb, ltb→lt, not-T}
 use Rattle.basics.proofs.Choice.{reach}
 use Rattle.basics.proofs.Walk.{walked, walk-unique}
-use Rattle.listing.specs.Digits.{placesOf, decimalOf, mostPlaces}
-use Rattle.listing.proofs.Puts.{length-digits}
+use Rattle.digits.specs.Digits.{placesOf, decimalOf, mostPlaces}
+use Rattle.digits.proofs.Puts.{length-digits}
 
 -- n is divided by ten `count` times, and `rest` is left
 pub record Counting (n count rest : ℕ) : Type 0 where

@@ -1,0 +1,4 @@
+-- Laws that the functions' proofs cite, here and in the crates above.
+pub mod Puts
+pub mod Decimal
+pub mod Said
