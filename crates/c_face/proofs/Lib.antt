@@ -1,4 +1,2 @@
--- Laws of the answer's words and of the call's numbers.
-pub mod Telling
+-- Laws of the call's numbers.
 pub mod Calling
-pub mod Words

@@ -1,45 +1,19 @@
--- What the functions for C callers answer: the numbers that a call hands over, and the words that it gets back. Definitions only.
+-- The numbers that a call from C hands over, and what is answered for them. Definitions only.
 use Prim.Native.Nat.{ℕ}
-use mathlib.Core.List.{List, [], _∷_, _++_}
-use lib.ListN.{length, getD, drop}
-use lib.Dec.{leb}
+use mathlib.Core.List.{List}
+use lib.ListN.{length, getD}
 use lib.Ieee.{Float}
-use Rattle.basics.specs.Choice.{pick}
 use Rattle.sheet.specs.declared.Size.{Size}
 use Rattle.sheet.specs.declared.Terms.{Terms}
 use Rattle.sheet.specs.declared.Checked.{Checked}
-use Rattle.sheet.specs.declared.Checked.the-variants as checked
 use Rattle.sheet.specs.Sheet.{Sheet}
 use Rattle.sheet.specs.Check.{sheetOf, checkOf}
 use Rattle.prepare.specs.declared.Prepared.{Prepared}
-use Rattle.prepare.specs.declared.Prepared.the-variants as prepared
 use Rattle.prepare.specs.Prepared.{answerOf}
-
--- ---- the answer's words
-
--- the words stand at the start of the lent answer and the rest stays; an answer too short for them is left alone
-unfoldable pub written : List ℕ → List ℕ → List ℕ
-written words answer = pick (leb (length words) (length answer)) (words ++ drop (length words) answer) answer
-
--- what the first word says
-abbrev pub turnedBack : ℕ
-turnedBack = 0
-
-abbrev pub taken : ℕ
-taken = 1
-
--- three words
-abbrev pub told : ℕ → ℕ → ℕ → List ℕ → List ℕ
-told kind reason place answer = written (kind ∷ reason ∷ place ∷ []) answer
-
--- "Turned back (number, place)", or 1, 0, 0
-unfoldable pub preparedTold : Prepared → List ℕ → List ℕ
-preparedTold prepared.Done answer = told taken 0 0 answer
-preparedTold (prepared.Refused number place) answer = told turnedBack number place answer
-
-unfoldable pub checkedTold : Checked → List ℕ → List ℕ
-checkedTold checked.Accepted answer = told taken 0 0 answer
-checkedTold (checked.Refused number place) answer = told turnedBack number place answer
+use Rattle.tree.specs.declared.Answer.{Answer}
+use Rattle.depth2.specs.Search.{searchOf}
+use Rattle.cut_scan.specs.declared.Scanned.{Scanned}
+use Rattle.cut_scan.specs.CutScan.{scannedOf}
 
 -- ---- the call's numbers; one that is not there counts as 0
 
@@ -66,3 +40,12 @@ prepareAnswer numbers values order cuts counts =
 abbrev pub checkAnswer : List ℕ → List Float → List ℕ → List ℕ → List ℕ → List ℕ → ℕ → Checked
 checkAnswer numbers values codes order cuts counts words =
     checkOf (sheetIn numbers values codes order cuts counts) (termsIn numbers) words
+
+-- the search, with a scratch of that many words
+abbrev pub searchAnswer : List ℕ → List Float → List ℕ → List ℕ → List ℕ → List ℕ → ℕ → Answer
+searchAnswer numbers values codes order cuts counts words = searchOf (sheetIn numbers values codes order cuts counts) (termsIn numbers) words
+
+-- the scan of one cut: past a search's numbers come a column, a cut number, and how often, which changes no answer
+abbrev pub scanAnswer : List ℕ → List Float → List ℕ → List ℕ → List ℕ → List ℕ → ℕ → Scanned
+scanAnswer numbers values codes order cuts counts words =
+    scannedOf (sheetIn numbers values codes order cuts counts) (termsIn numbers) (getD numbers 7 0) (getD numbers 8 0) words

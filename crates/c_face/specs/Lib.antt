@@ -1,2 +1,1 @@
 pub mod Face
-pub mod Rule

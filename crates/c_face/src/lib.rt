@@ -4,37 +4,11 @@ ghost use lib.ListN.{length, getD};
 ghost use Rattle.prepare.specs.Prepared.{PreparedOf};
 ghost use Rattle.sheet.specs.Check.{scratchAfter};
 ghost use Rattle.depth2.specs.Search.{scratchOf};
-ghost use Rattle.c_face.specs.Face.{written, told, preparedTold, checkedTold, prepareAnswer, sizeIn, termsIn, sheetIn, checkAnswer};
-ghost use Rattle.c_face.specs.Rule.{sideWords, foundWords, shortWords, searchWords, searchAnswer, bothWords, scanWords, scanAnswer};
-use cut_scan::Scanned;
-use leaves_score::Sides;
-use prepare::Prepared;
-use sheet::Checked;
+ghost use Rattle.c_words.specs.Told.{written, preparedTold, checkedTold};
+ghost use Rattle.c_words.specs.Rule.{searchWords, scanWords};
+ghost use Rattle.c_face.specs.Face.{sizeIn, termsIn, sheetIn, prepareAnswer, checkAnswer, searchAnswer, scanAnswer};
 use sheet::Size;
 use sheet::Terms;
-use tree::Answer;
-use tree::Side;
-use tree::Tree;
-
-// The words that the check and the preparer answer.
-const TOLD_WORDS: usize = 3;
-
-// What the first word of an answer says.
-const TURNED_BACK: u64 = 0;
-
-const TAKEN: u64 = 1;
-
-fn wide(x: u32) -> u64
-    ensures { λ r. ⌜ r ≡ x ⌝ }
-{
-    x as u64
-}
-
-fn word(x: usize) -> u64
-    ensures { λ r. ⌜ r ≡ x ⌝ }
-{
-    x as u64
-}
 
 // A number of the call; 0 if it is not there.
 fn number(numbers: &[u32], at: usize) -> u32
@@ -53,53 +27,6 @@ fn size_number(numbers: &[u32], at: usize) -> usize
     n as usize
 }
 
-// The words at the start of the answer; one too short for them is left alone.
-fn write(answer: &mut [u64], words: &[u64])
-    ensures { λ _. ⌜ now (answer .exit) ≡ written (now (words .entry)) (now (answer .entry)) ⌝ }
-{
-    if answer.len() < words.len() {
-        return;
-    }
-    let mut at: usize = 0;
-    while at < words.len() {
-        answer[at] = words[at];
-        at += 1;
-    }
-}
-
-fn tell(answer: &mut [u64], kind: u64, reason: u64, place: u64)
-    ensures { λ _. ⌜ now (answer .exit) ≡ told kind reason place (now (answer .entry)) ⌝ }
-{
-    let words: [u64; TOLD_WORDS] = [kind, reason, place];
-    write(answer, &words);
-}
-
-fn tell_prepared(answer: &mut [u64], done: Prepared)
-    ensures { λ _. ⌜ now (answer .exit) ≡ preparedTold done (now (answer .entry)) ⌝ }
-{
-    match done {
-        Prepared::Done => {
-            tell(answer, TAKEN, 0, 0);
-        }
-        Prepared::Refused { number, place } => {
-            tell(answer, TURNED_BACK, wide(number), word(place));
-        }
-    }
-}
-
-fn tell_checked(answer: &mut [u64], checked: Checked)
-    ensures { λ _. ⌜ now (answer .exit) ≡ checkedTold checked (now (answer .entry)) ⌝ }
-{
-    match checked {
-        Checked::Accepted => {
-            tell(answer, TAKEN, 0, 0);
-        }
-        Checked::Refused(number, place) => {
-            tell(answer, TURNED_BACK, wide(number), word(place));
-        }
-    }
-}
-
 // The preparer. Numbers: rows, columns.
 #[no_mangle]
 pub extern "C" fn finder_prepare(
@@ -116,7 +43,7 @@ pub extern "C" fn finder_prepare(
     let rows = size_number(numbers, 0);
     let columns = size_number(numbers, 1);
     let done = prepare::prepare(rows, columns, values, order, cuts, counts);
-    tell_prepared(answer, done);
+    c_words::tell_prepared(answer, done);
 }
 
 fn size_in(numbers: &[u32]) -> Size
@@ -165,113 +92,7 @@ pub extern "C" fn finder_check(
     let size = size_in(numbers);
     let terms = terms_in(numbers);
     let checked = sheet::check(size, terms, values, codes, order, cuts, counts, scratch);
-    tell_checked(answer, checked);
-}
-
-// ---- the search
-
-// The words of a side, and of a search's answer.
-const SIDE_WORDS: usize = 7;
-
-const SEARCH_WORDS: usize = 19;
-
-// What a side's first word says.
-const LEAF: u64 = 0;
-
-const SPLIT: u64 = 1;
-
-// What the first word of a search's answer says, where it is not turned back.
-const KEPT: u64 = 1;
-
-const FOUND: u64 = 2;
-
-fn side_words(side: Side) -> [u64; SIDE_WORDS]
-    ensures { λ r. ⌜ r ≡ sideWords side ⌝ }
-{
-    match side {
-        Side::Leaf { label, error } => {
-            let wrong = error as u64;
-            [LEAF, label as u64, wrong, 0, 0, 0, 0]
-        }
-        Side::Split {
-            column,
-            threshold,
-            left,
-            right,
-            lost,
-            missed,
-        } => {
-            let bits = digits::bits_of(threshold);
-            let first = lost as u64;
-            let second = missed as u64;
-            [
-                SPLIT,
-                column as u64,
-                bits,
-                left as u64,
-                right as u64,
-                first,
-                second,
-            ]
-        }
-    }
-}
-
-fn found_words(tree: Tree, tried: u32) -> [u64; SEARCH_WORDS]
-    ensures { λ r. ⌜ r ≡ foundWords tree tried ⌝ }
-{
-    let error = tree.error as u64;
-    let tries = tried as u64;
-    let column = tree.column as u64;
-    let bits = digits::bits_of(tree.threshold);
-    let left = tree.left;
-    let right = tree.right;
-    let l = side_words(left);
-    let r = side_words(right);
-    [
-        FOUND,
-        error,
-        tries,
-        column,
-        bits,
-        l[0],
-        l[1],
-        l[2],
-        l[3],
-        l[4],
-        l[5],
-        l[6],
-        r[0],
-        r[1],
-        r[2],
-        r[3],
-        r[4],
-        r[5],
-        r[6],
-    ]
-}
-
-// An answer that says three numbers.
-fn short_words(kind: u64, first: u64, second: u64) -> [u64; SEARCH_WORDS]
-    ensures { λ r. ⌜ r ≡ shortWords kind first second ⌝ }
-{
-    let mut words: [u64; SEARCH_WORDS] = [0; SEARCH_WORDS];
-    words[0] = kind;
-    words[1] = first;
-    words[2] = second;
-    words
-}
-
-fn search_words(answer: Answer) -> [u64; SEARCH_WORDS]
-    ensures { λ r. ⌜ r ≡ searchWords answer ⌝ }
-{
-    match answer {
-        Answer::TurnedBack { number, place } => {
-            short_words(TURNED_BACK, number as u64, place as u64)
-        }
-        Answer::Kept { error, tried } => short_words(KEPT, error as u64, tried as u64),
-        Answer::Found { tree, tried } => found_words(tree, tried),
-    }
+    c_words::tell_checked(answer, checked);
 }
 
 // The search. Numbers: rows, columns, labels, support, gap, error, bound.
@@ -292,57 +113,7 @@ pub extern "C" fn finder_search(
     let size = size_in(numbers);
     let terms = terms_in(numbers);
     let found = depth2::search(size, terms, values, codes, order, cuts, counts, scratch);
-    let words = search_words(found);
-    write(answer, &words);
-}
-
-// ---- the scan of one cut
-
-const SCAN_WORDS: usize = 15;
-
-// What the first word of a scan's answer says, where it is not turned back.
-const SCANNED: u64 = 1;
-
-fn sides_words(sides: Sides) -> [u64; SCAN_WORDS]
-    ensures { λ r. ⌜ r ≡ bothWords sides ⌝ }
-{
-    let left = sides.left;
-    let right = sides.right;
-    let l = side_words(left);
-    let r = side_words(right);
-    [
-        SCANNED,
-        l[0],
-        l[1],
-        l[2],
-        l[3],
-        l[4],
-        l[5],
-        l[6],
-        r[0],
-        r[1],
-        r[2],
-        r[3],
-        r[4],
-        r[5],
-        r[6],
-    ]
-}
-
-fn scan_words(scanned: Scanned) -> [u64; SCAN_WORDS]
-    ensures { λ r. ⌜ r ≡ scanWords scanned ⌝ }
-{
-    match scanned {
-        Scanned::TurnedBack { number, place } => {
-            let reason = number as u64;
-            let mut words: [u64; SCAN_WORDS] = [0; SCAN_WORDS];
-            words[0] = TURNED_BACK;
-            words[1] = reason;
-            words[2] = place as u64;
-            words
-        }
-        Scanned::Done(sides) => sides_words(sides),
-    }
+    c_words::tell_searched(answer, found);
 }
 
 // The two sides of one cut, found as often as is said, for timing. Numbers: as the search, then column, cut number, times.
@@ -378,6 +149,5 @@ pub extern "C" fn finder_scan(
         times,
         scratch,
     );
-    let words = scan_words(scanned);
-    write(answer, &words);
+    c_words::tell_scanned(answer, scanned);
 }

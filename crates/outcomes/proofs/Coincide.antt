@@ -2,7 +2,7 @@
 use mathlib.Core.Path.{sym, _∙_}
 use Rattle.prepare.proofs.Soundness.{determined}
 use Rattle.rule_finder.proofs.Laws.{outcomes-coincide}
-use Rattle.outcomes.specs.Outcomes.{ThresholdBetween, GoesLeft, InRange, SentLeft, LeftOfCut, FirstBadValue, FirstBadLabel, SizeHolds, Check, Prepare, PlaceAt, ReaderLowerBound, ReaderUpperBound, LowerBound, UpperBound, FeasibleSplits, AddResult, SubintervalPruning, IntervalShrinking, NeighbourhoodPruning, Push, Pop, GetLeavesScore, Search, Judge, ReadSheet, WriteAnswer, BitsOf, RunText, ScanCut, FinderPrepare, FinderCheck, FinderSearch, FinderScan}
+use Rattle.outcomes.specs.Outcomes.{ThresholdBetween, GoesLeft, InRange, SentLeft, LeftOfCut, FirstBadValue, FirstBadLabel, SizeHolds, Check, Prepare, PlaceAt, ReaderLowerBound, ReaderUpperBound, LowerBound, UpperBound, FeasibleSplits, AddResult, SubintervalPruning, IntervalShrinking, NeighbourhoodPruning, Push, Pop, GetLeavesScore, Search, Judge, ReadSheet, WriteAnswer, BitsOf, RunText, ScanCut, TellPrepared, TellChecked, TellSearched, TellScanned, FinderPrepare, FinderCheck, FinderSearch, FinderScan}
 
 pub threshold-between : ThresholdBetween
 threshold-between lower upper a b p q = p ∙ sym q
@@ -93,6 +93,18 @@ run-text = outcomes-coincide
 
 pub scan-cut : ScanCut
 scan-cut s t column cut scratch a b p q = p ∙ sym q
+
+pub tell-prepared : TellPrepared
+tell-prepared done answer a b p q = p ∙ sym q
+
+pub tell-checked : TellChecked
+tell-checked checked answer a b p q = p ∙ sym q
+
+pub tell-searched : TellSearched
+tell-searched found answer a b p q = p ∙ sym q
+
+pub tell-scanned : TellScanned
+tell-scanned scanned answer a b p q = p ∙ sym q
 
 pub finder-prepare : FinderPrepare
 finder-prepare numbers values order cuts counts answer a b p q = p ∙ sym q

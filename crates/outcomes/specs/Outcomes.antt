@@ -34,6 +34,7 @@ use Rattle.leaves_score.specs.Scan.{sidesOf}
 use Rattle.depth2.specs.Search.{searchOf, scratchOf}
 use Rattle.judge.specs.declared.Verdict.{Verdict}
 use Rattle.judge.specs.Judge.{judgeOf}
+use Rattle.prepare.specs.declared.Prepared.{Prepared}
 use Rattle.prepare.specs.Laws.{Determined}
 use Rattle.sheet_bytes.specs.declared.Read.{Read}
 use Rattle.sheet_bytes.specs.Read as bytes
@@ -41,8 +42,9 @@ use Rattle.listing.specs.Listing.{writtenOf, outOf}
 use Rattle.cut_scan.specs.declared.Scanned.{Scanned}
 use Rattle.cut_scan.specs.CutScan.{scannedOf}
 use Rattle.rule_finder.specs.Laws as finder
-use Rattle.c_face.specs.Face.{sheetIn, termsIn, written, prepareAnswer, preparedTold, checkAnswer, checkedTold}
-use Rattle.c_face.specs.Rule.{searchAnswer, searchWords, scanAnswer, scanWords}
+use Rattle.c_words.specs.Told.{written, preparedTold, checkedTold}
+use Rattle.c_words.specs.Rule.{searchWords, scanWords}
+use Rattle.c_face.specs.Face.{sheetIn, termsIn, prepareAnswer, checkAnswer, searchAnswer, scanAnswer}
 
 -- two outcomes that are what an equation says
 abbrev pub One : (A : Type 0) → A → Type 0
@@ -167,6 +169,18 @@ abbrev pub ScanCut : Type 0
 ScanCut =
     (s : Sheet) (t : Terms) (column cut : ℕ) (scratch : List ℕ)
     → One (Scanned × List ℕ) (scannedOf s t column cut (length scratch), scratchOf s t scratch)
+
+abbrev pub TellPrepared : Type 0
+TellPrepared = (done : Prepared) (answer : List ℕ) → One (List ℕ) (preparedTold done answer)
+
+abbrev pub TellChecked : Type 0
+TellChecked = (checked : Checked) (answer : List ℕ) → One (List ℕ) (checkedTold checked answer)
+
+abbrev pub TellSearched : Type 0
+TellSearched = (found : Answer) (answer : List ℕ) → One (List ℕ) (written (searchWords found) answer)
+
+abbrev pub TellScanned : Type 0
+TellScanned = (scanned : Scanned) (answer : List ℕ) → One (List ℕ) (written (scanWords scanned) answer)
 
 -- the three lists are those of `Prepare`
 abbrev pub FinderPrepare : Type 0

@@ -1,14 +1,15 @@
--- `c_face::finder_scan` meets its contract: it writes what the scan of the cut answers for the numbers read. Assumes nothing.
+-- `c_face::finder_scan` meets its contract: it tells what the scan of the cut answers for the numbers read. Assumes nothing.
 use mathlib.Core.Path.{ap, _∙_}
 use Prim.Native.Nat.{ℕ}
-use mathlib.Core.List.{List}
 use lib.ListN.{length, getD}
 use Rattle.sheet.specs.declared.Terms.{Terms}
 use Rattle.sheet.specs.Sheet.{Sheet}
 use Rattle.depth2.specs.Search.{scratchOf}
+use Rattle.cut_scan.specs.declared.Scanned.{Scanned}
 use Rattle.cut_scan.specs.CutScan.{scannedOf}
-use Rattle.c_face.specs.Face.{sheetIn, termsIn, written}
-use Rattle.c_face.specs.Rule.{scanWords}
+use Rattle.c_words.specs.Told.{written}
+use Rattle.c_words.specs.Rule.{scanWords}
+use Rattle.c_face.specs.Face.{sheetIn, termsIn}
 use Rattle.c_face.proofs.Calling.{same-asked}
 use borrow.Author.Needs.{needs}
 use Rattle.c_face.proofs.finder_scan.Statement.{statement}
@@ -32,14 +33,8 @@ number-requires c κs = search needs
 scan-cut-requires : tie.Need-scan-cut-requires
 scan-cut-requires c κs = search needs
 
-scan-words-requires : tie.Need-scan-words-requires
-scan-words-requires c κs = search needs
-
-slice-aggregate-write : tie.Need-slice-aggregate-write
-slice-aggregate-write c = search needs
-
-write-requires : tie.Need-write-requires
-write-requires c κs = search needs
+tell-scanned-requires : tie.Need-tell-scanned-requires
+tell-scanned-requires c κs = search needs
 
 same-length : tie.Need-same-length
 same-length c = search needs
@@ -49,8 +44,8 @@ same-length-2 c = search needs
 
 returns : tie.Need-returns
 returns c =
-    let f = c .before .before .before .before .before .before .before .before in
-    let a = c .before .before .before .before .before .before .before .before .before .before .before .before .before .before .before .before .before .before .before .before .before .before .before .args in
+    let f = c .before .before .before .before .before .before in
+    let a = c .before .before .before .before .before .before .before .before .before .before .before .before .before .before .before .before .before .before .before .before .before .args in
     let size = f .before .before .before .before .before .before .size-in .ensures in
     let terms = f .before .before .before .before .before .terms-in .ensures in
     let column = f .before .before .before .before .size-number in
@@ -63,7 +58,7 @@ returns c =
     ∙ same-asked (λ (s : Sheet) (t : Terms). scannedOf s t (column .result) (cut .result) words) (a .values .now) (a .codes .now) (a .order .now) (a .cuts .now) (a .counts .now) size terms
     ∙ ap (λ (n : ℕ). scannedOf s t n (cut .result) words) (column .ensures)
     ∙ ap (λ (n : ℕ). scannedOf s t (getD (a .numbers .now) 7 0) n words) (cut .ensures) in (
-      c .before .before .write .ensures ∙ ap (λ (k : List ℕ). written k (a .answer .now)) (c .before .before .before .before .before .scan-words .ensures ∙ ap scanWords found),
+      c .before .before .tell-scanned .ensures ∙ ap (λ (r : Scanned). written (scanWords r) (a .answer .now)) found,
       f .scan-cut .ensures .1 ∙ same-asked (λ (s : Sheet) (t : Terms). scratchOf s t (a .scratch .now)) (a .values .now) (a .codes .now) (a .order .now) (a .cuts .now) (a .counts .now) size terms,
     )
 
@@ -77,9 +72,7 @@ finder-scan-spec =
     size-number-requires-2
     number-requires
     scan-cut-requires
-    scan-words-requires
-    slice-aggregate-write
-    write-requires
+    tell-scanned-requires
     same-length
     same-length-2
     returns)

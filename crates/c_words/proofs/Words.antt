@@ -17,8 +17,8 @@ use Rattle.tree.specs.declared.Answer.the-variants.{TurnedBack, Kept, Found}
 use Rattle.leaves_score.specs.declared.Sides.{Sides}
 use Rattle.cut_scan.specs.declared.Scanned.{Scanned}
 use Rattle.cut_scan.specs.declared.Scanned.the-variants as scanned
-use Rattle.c_face.specs.Face.{written}
-use Rattle.c_face.specs.Rule.{sideWords, foundWords, shortWords, searchWords, bothWords, scanWords}
+use Rattle.c_words.specs.Told.{written}
+use Rattle.c_words.specs.Rule.{sideWords, foundWords, shortWords, searchWords, bothWords, scanWords}
 
 -- ---- a side
 

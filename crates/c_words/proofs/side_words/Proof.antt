@@ -1,8 +1,8 @@
--- `c_face::side_words` meets its contract: each case has its own words. Assumes nothing.
+-- `c_words::side_words` meets its contract: each case has its own words. Assumes nothing.
 use borrow.Author.Needs.{needs}
-use Rattle.c_face.proofs.Words.{leaf-words, split-words}
-use Rattle.c_face.proofs.side_words.Statement.{statement}
-use Rattle.c_face.proofs.side_words.Tie as tie
+use Rattle.c_words.proofs.Words.{leaf-words, split-words}
+use Rattle.c_words.proofs.side_words.Statement.{statement}
+use Rattle.c_words.proofs.side_words.Tie as tie
 
 enum-known-side : tie.Need-enum-known-side
 enum-known-side c = search needs

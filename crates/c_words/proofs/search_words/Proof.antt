@@ -1,8 +1,8 @@
--- `c_face::search_words` meets its contract: each case has its own words. Assumes nothing.
-use Rattle.c_face.proofs.Words.{turned-words, kept-words, rule-words}
+-- `c_words::search_words` meets its contract: each case has its own words. Assumes nothing.
+use Rattle.c_words.proofs.Words.{turned-words, kept-words, rule-words}
 use borrow.Author.Needs.{needs}
-use Rattle.c_face.proofs.search_words.Statement.{statement}
-use Rattle.c_face.proofs.search_words.Tie as tie
+use Rattle.c_words.proofs.search_words.Statement.{statement}
+use Rattle.c_words.proofs.search_words.Tie as tie
 
 enum-known-answer : tie.Need-enum-known-answer
 enum-known-answer c = search needs

@@ -1,8 +1,8 @@
--- `c_face::short_words` meets its contract: three stores in words that are all 0. Assumes nothing.
-use Rattle.c_face.proofs.Words.{short-words}
+-- `c_words::short_words` meets its contract: three stores in words that are all 0. Assumes nothing.
+use Rattle.c_words.proofs.Words.{short-words}
 use borrow.Author.Needs.{needs}
-use Rattle.c_face.proofs.short_words.Statement.{statement}
-use Rattle.c_face.proofs.short_words.Tie as tie
+use Rattle.c_words.proofs.short_words.Statement.{statement}
+use Rattle.c_words.proofs.short_words.Tie as tie
 
 array-write-words : tie.Need-array-write-words
 array-write-words c = search needs

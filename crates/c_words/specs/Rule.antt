@@ -1,8 +1,8 @@
 -- The words that a search and a scan of one cut answer. Definitions only.
 use Prim.Native.Nat.{ℕ}
 use mathlib.Core.List.{List, [], _∷_, _++_}
-use lib.ListN.{getD, replicate}
-use lib.Ieee.{Float, binary64, toBits}
+use lib.ListN.{replicate}
+use lib.Ieee.{binary64, toBits}
 use Rattle.tree.specs.declared.Side.{Side}
 use Rattle.tree.specs.declared.Side.the-variants.{Leaf, Split}
 use Rattle.tree.specs.declared.Tree.{Tree}
@@ -11,9 +11,6 @@ use Rattle.tree.specs.declared.Answer.the-variants.{TurnedBack, Kept, Found}
 use Rattle.leaves_score.specs.declared.Sides.{Sides}
 use Rattle.cut_scan.specs.declared.Scanned.{Scanned}
 use Rattle.cut_scan.specs.declared.Scanned.the-variants as scanned
-use Rattle.depth2.specs.Search.{searchOf}
-use Rattle.cut_scan.specs.CutScan.{scannedOf}
-use Rattle.c_face.specs.Face.{sheetIn, termsIn}
 
 -- "A side is a leaf (label, error) or a split (column, threshold, two labels, two errors)": seven words, 0 where a leaf says nothing
 unfoldable pub sideWords : Side → List ℕ
@@ -36,10 +33,6 @@ searchWords (TurnedBack number place) = shortWords 0 number place
 searchWords (Kept error tried) = shortWords 1 error tried
 searchWords (Found tree tried) = foundWords tree tried
 
--- what the search answers for a call's numbers and slices, with a scratch of that many words
-abbrev pub searchAnswer : List ℕ → List Float → List ℕ → List ℕ → List ℕ → List ℕ → ℕ → Answer
-searchAnswer numbers values codes order cuts counts words = searchOf (sheetIn numbers values codes order cuts counts) (termsIn numbers) words
-
 -- ---- the scan of one cut
 
 -- 1, and the two sides
@@ -50,8 +43,3 @@ bothWords sides = 1 ∷ sideWords (sides .left) ++ sideWords (sides .right)
 unfoldable pub scanWords : Scanned → List ℕ
 scanWords (scanned.TurnedBack number place) = 0 ∷ number ∷ place ∷ replicate 12 0
 scanWords (scanned.Done sides) = bothWords sides
-
--- what a scan answers: past a search's numbers come a column, a cut number, and how often, which changes no answer
-abbrev pub scanAnswer : List ℕ → List Float → List ℕ → List ℕ → List ℕ → List ℕ → ℕ → Scanned
-scanAnswer numbers values codes order cuts counts words =
-    scannedOf (sheetIn numbers values codes order cuts counts) (termsIn numbers) (getD numbers 7 0) (getD numbers 8 0) words

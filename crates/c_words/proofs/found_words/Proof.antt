@@ -1,8 +1,8 @@
--- `c_face::found_words` meets its contract: word by word it is the rule's line and its two sides. Assumes nothing.
-use Rattle.c_face.proofs.Words.{found-words}
+-- `c_words::found_words` meets its contract: word by word it is the rule's line and its two sides. Assumes nothing.
+use Rattle.c_words.proofs.Words.{found-words}
 use borrow.Author.Needs.{needs}
-use Rattle.c_face.proofs.found_words.Statement.{statement}
-use Rattle.c_face.proofs.found_words.Tie as tie
+use Rattle.c_words.proofs.found_words.Statement.{statement}
+use Rattle.c_words.proofs.found_words.Tie as tie
 
 cast-error : tie.Need-cast-error
 cast-error c = search needs

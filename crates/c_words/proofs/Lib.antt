@@ -1,0 +1,3 @@
+-- Laws of the answer's words.
+pub mod Telling
+pub mod Words
