@@ -2,19 +2,12 @@
 // rows go left there, which is proved to be the place itself.
 use libc::STDOUT_FILENO;
 
-// A NaN has no one bit pattern, so printing asks; a threshold between numbers is a number.
-fn print_bits(x: f64) {
-    if x == x {
-        io::print_hex(STDOUT_FILENO, f64::to_bits(x), 16);
-    }
-}
-
 fn print_cut(ratios: &[f64], at: usize, lower: f64, upper: f64) {
     let threshold = threshold::threshold_between(lower, upper);
     io::write_all(STDOUT_FILENO, b"cut place=");
     io::print_decimal(STDOUT_FILENO, at as u64);
     io::write_all(STDOUT_FILENO, b" at=");
-    print_bits(threshold);
+    io::print_hex(STDOUT_FILENO, digits::bits_of(threshold), 16);
     io::write_all(STDOUT_FILENO, b" left=");
     io::print_decimal(STDOUT_FILENO, parting::left_of_cut(ratios, at) as u64);
     io::write_all(STDOUT_FILENO, b"\n");

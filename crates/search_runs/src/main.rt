@@ -15,17 +15,11 @@ const MOST_ROWS: usize = 6;
 
 const NO_BOUND: u32 = 1000000;
 
-// A NaN has no one bit pattern, so printing asks; a threshold between numbers is a number.
-fn print_bits(x: f64) {
-    if x == x {
-        io::print_hex(STDOUT_FILENO, f64::to_bits(x), 16);
-    }
-}
-
 fn show_threshold(name: &[u8], lower: f64, upper: f64) {
     io::write_all(STDOUT_FILENO, name);
     io::write_all(STDOUT_FILENO, b": ");
-    print_bits(threshold::threshold_between(lower, upper));
+    let threshold = threshold::threshold_between(lower, upper);
+    io::print_hex(STDOUT_FILENO, digits::bits_of(threshold), 16);
     io::write_all(STDOUT_FILENO, b"\n");
 }
 
