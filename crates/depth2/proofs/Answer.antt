@@ -11,9 +11,9 @@ use Rattle.sheet.specs.declared.Checked.the-variants.{Accepted, Refused}
 use Rattle.sheet.specs.Sheet.{Sheet}
 use Rattle.sheet.specs.Check.{checkOf}
 use Rattle.tree.specs.declared.Answer.the-variants.{TurnedBack}
-use Rattle.depth2.specs.declared.Standing.{Standing}
+use Rattle.column_turns.specs.declared.Standing.{Standing}
 use Rattle.depth2.specs.Search.{Progress, searched, answerOf, answerAfter, searchOf}
-use Rattle.depth2.specs.Course.{heldOf, standingOf, answerHeld}
+use Rattle.depth2.specs.Columns.{heldOf, standingOf, answerHeld}
 
 -- a refused sheet is turned back by the check's number and place
 pub refused : (s : Sheet) (t : Terms) (words number place : ℕ) → checkOf s t words ≡ Refused number place → TurnedBack number place ≡ searchOf s t words

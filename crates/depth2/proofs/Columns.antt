@@ -1,94 +1,25 @@
--- A column's loop begins with the definition's first state and ends with its run's; column after column, the code's standing is that of the definition's
--- progress. Assumes nothing.
+-- Column after column, the code's standing is that of the definition's progress. Assumes nothing.
 use mathlib.Core.Path.{_≡_, refl, sym, ap, _∙_, subst}
 use Prim.Native.Nat.{ℕ, suc, _+_, _-_, _*_, _≤_, _<_}
 use native.Mathlib.Omega.{arith}
 use mathlib.Core.Option.{Option, none, some}
-use mathlib.Core.List.{List, []}
-use lib.Dec.{leb, ltb, ltb→lt, lt→ltb, le→leb}
+use lib.Dec.{leb, ltb, ltb→lt, le→leb}
 use Rattle.basics.specs.Choice.{pick, Hit}
-use Rattle.basics.specs.Lists.{table}
-use Rattle.basics.proofs.Choice.{decide, pick-true, pick-false, nltb, nleb, reach, by-ltb}
+use Rattle.basics.proofs.Choice.{decide, pick-true, pick-false, nleb, reach, by-ltb}
 use Rattle.sheet.specs.declared.Terms.{Terms}
-use Rattle.sheet.specs.Limits.{mostRows}
 use Rattle.sheet.specs.Sheet.{Sheet}
-use Rattle.interval_pruner.specs.declared.Tried.the-variants.{Nothing}
-use Rattle.interval_pruner.specs.Column.{Column, errorOf}
-use Rattle.interval_queue.specs.declared.Queue.{Queue}
-use Rattle.interval_queue.specs.Ring.{contents}
-use Rattle.column_search.specs.Search.{State, zerosOf, start, columnRun, triedOf}
-use Rattle.column_search.specs.Laws.{Feasible, Lowered}
-use Rattle.column_search.specs.Loop.{Looping}
-use Rattle.column_search.proofs.Count.{loops, tries}
+use Rattle.interval_pruner.specs.Column.{errorOf}
+use Rattle.column_search.specs.Search.{State, columnRun, triedOf}
+use Rattle.column_search.specs.Laws.{Lowered}
+use Rattle.column_search.proofs.Count.{tries}
 use Rattle.column_search.proofs.Error.{lowers}
-use Rattle.depth2.specs.declared.Standing.{Standing}
-use Rattle.depth2.specs.declared.Course.{Course}
-use Rattle.cut_try.specs.Lent.{ringOf, Enough, Became}
+use Rattle.column_turns.specs.declared.Standing.{Standing}
 use Rattle.cut_try.specs.Ready.{Whole}
 use Rattle.cut_try.specs.Try.{columnOf}
 use Rattle.depth2.specs.Search.{Progress, bestAfter, joined, afterColumn, searchColumns, searched}
-use Rattle.depth2.specs.Course.{heldAfter, standingAfter, heldOf, standingOf, startOf, feasibleAt, firstAt, lastAt, Stands, mostTries, Begun, Pushing, Opened, columnAfter, Between}
-use Rattle.cut_try.proofs.Lent.{became-enough}
-use Rattle.depth2.proofs.Queueing.{ring-slots}
-use Rattle.depth2.proofs.Turns.{feasible-cuts, end-listed}
-
--- ---- the first interval
-
-pub first-pushing : (rows first last : ℕ) (xs : List ℕ) → Enough rows xs → first ≤ last → last < mostRows
-    → Pushing rows xs (record { head = 0; waiting = 0 }) (record { first = first; last = last; left = Nothing; right = Nothing })
-first-pushing rows first last xs enough h l =
-    record {
-      enough = enough;
-      sane = record { head-in = omega (arith, ring-slots rows xs enough, enough .some); few = omega arith };
-      room = omega (arith, enough .some);
-      small = λ _. record { first = omega arith; last = omega arith; left = tt; right = tt };
-    }
-
-pub none-waits : (words : List ℕ) (q : Queue) → q .waiting ≤ 0 → contents words q ≡ []
-unfolding contents
-none-waits words q h = let z : q .waiting ≡ 0 = omega arith in ap (table _) z
-
-module _ (s : Sheet) (t : Terms) (c : ℕ) (p : Standing) (xs : List ℕ) (course : Course) (begun : Begun s t c xs) where
-  abbrev col : Column
-  col = columnOf s t c
-
-  fair : Feasible col (firstAt s t c) (lastAt s t c)
-  fair = feasible-cuts s t c (begun .whole) (begun .here) (begun .some)
-
-  looping : Looping col (t .bound) (firstAt s t c) (lastAt s t c) (p .error)
-  looping = loops col (t .bound) (firstAt s t c) (lastAt s t c) (p .error) fair
-
-  -- the loop begins with the run's first state
-  pub opened-stands : Opened (s .rows) xs (firstAt s t c) (lastAt s t c) p course → Stands s t c p xs course
-  unfolding standingAfter heldAfter zerosOf
-  opened-stands o =
-      let n : p .tried ≡ p .tried + 0 = omega arith in
-      record {
-        state = start (firstAt s t c) (lastAt s t c) (p .error);
-        running = looping .begins;
-        matches =
-            record {
-              standing = o .standing-is ∙ (λ k. record { error = p .error; tried = n k; held = p .held });
-              zeros = o .zeros;
-              queue = o .queue;
-              sane = o .sane;
-              agrees = tt;
-            };
-      }
-
-  -- and ends with its last
-  pub stands-done : Stands s t c p xs course → course .queue .waiting ≤ 0
-      → course .standing ≡ standingAfter s (t .support) c p (columnRun col (t .bound) (firstAt s t c) (lastAt s t c) (p .error))
-  stands-done stands h =
-      stands .matches .standing
-      ∙ ap (standingAfter s (t .support) c p)
-      (looping .done (stands .state) (stands .running) (sym (stands .matches .queue) ∙ none-waits (ringOf (s .rows) xs) (course .queue) h))
-
-pub begun-after : (s : Sheet) (t : Terms) (c : ℕ) (xs ys table ring : List ℕ) → Begun s t c xs → Became (s .rows) xs ys table ring → Begun s t c ys
-begun-after s t c xs ys table ring begun b =
-    record { whole = begun .whole; here = begun .here; some = begun .some; enough = became-enough (s .rows) xs ys table ring (begun .enough) b }
-
--- ---- column after column
+use Rattle.column_turns.specs.Course.{heldAfter, standingAfter, feasibleAt, firstAt, lastAt, mostTries, columnAfter}
+use Rattle.depth2.specs.Columns.{heldOf, standingOf, startOf, Between}
+use Rattle.column_turns.proofs.Turns.{feasible-cuts, end-listed}
 
 module _ (s : Sheet) (t : Terms) (c : ℕ) (whole : Whole s) (here : c < s .columns) where
   -- at most so many tries in a column
@@ -141,15 +72,6 @@ columns-next s t n c q h =
     let b : suc c ≡ c + 1 = omega arith in
     ap (λ (k : ℕ). searchColumns s t k c q) a
     ∙ ap (λ (k : ℕ). pick (leb (afterColumn s t c q .error) (t .gap)) (afterColumn s t c q) (searchColumns s t (n - (c + 1)) k (afterColumn s t c q))) b
-
-pub column-none : (s : Sheet) (t : Terms) (c : ℕ) (p : Standing) → feasibleAt s t c .end ≤ firstAt s t c → p ≡ columnAfter s t c p
-unfolding columnAfter
-column-none s t c p h = sym (pick-false (ltb (firstAt s t c) (feasibleAt s t c .end)) _ p (nltb (firstAt s t c) (feasibleAt s t c .end) h))
-
-pub column-some : (s : Sheet) (t : Terms) (c : ℕ) (p : Standing) → firstAt s t c < feasibleAt s t c .end
-    → standingAfter s (t .support) c p (columnRun (columnOf s t c) (t .bound) (firstAt s t c) (lastAt s t c) (p .error)) ≡ columnAfter s t c p
-unfolding columnAfter
-column-some s t c p h = sym (pick-true (ltb (firstAt s t c) (feasibleAt s t c .end)) _ p (lt→ltb (firstAt s t c) (feasibleAt s t c .end) h))
 
 pub between-start : (s : Sheet) (t : Terms) → Between s t 0 (startOf (t .error))
 unfolding standingOf heldOf searched

@@ -19,10 +19,10 @@ use Rattle.tree.specs.declared.Tree.{Tree}
 use Rattle.tree.specs.Answer.{sideError, ruleOf}
 use Rattle.cut_try.specs.Try.{columnOf, treeAt}
 use Rattle.depth2.specs.Search.{Progress, bestAfter, joined, afterColumn, searchColumns, searched, answerOf}
-use Rattle.depth2.specs.Course.{feasibleAt, firstAt, lastAt}
+use Rattle.column_turns.specs.Course.{feasibleAt, firstAt, lastAt}
 use Rattle.depth2.specs.Laws.{feasibleCount, mostTried, TriesSummed, MakesError, Bettered, ErrorFalls, FoundExactly, OutcomesCoincide}
-use Rattle.depth2.proofs.Turns.{feasible-cuts}
-use Rattle.depth2.proofs.Places.{places-count}
+use Rattle.column_turns.proofs.Turns.{feasible-cuts}
+use Rattle.column_turns.proofs.Places.{places-count}
 
 module _ (s : Sheet) (t : Terms) (whole : Whole s) where
   -- ---- tries

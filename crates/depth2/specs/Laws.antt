@@ -14,7 +14,7 @@ use Rattle.tree.specs.Answer.{sideError, ruleOf}
 use Rattle.leaves_score.specs.Root.{errorsAt}
 use Rattle.cut_try.specs.Ready.{Whole}
 use Rattle.depth2.specs.Search.{Progress, afterColumn, searched, answerOf, searchOf, scratchOf}
-use Rattle.depth2.specs.Course.{feasibleAt}
+use Rattle.column_turns.specs.Course.{feasibleAt}
 
 -- f, the number of feasible cuts of column c
 abbrev pub feasibleCount : Sheet → Terms → ℕ → ℕ

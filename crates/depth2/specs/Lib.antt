@@ -1,4 +1,4 @@
 pub mod Search
 pub mod Table
-pub mod Course
+pub mod Columns
 pub mod Laws

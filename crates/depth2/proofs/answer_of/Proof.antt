@@ -1,7 +1,7 @@
 -- `depth2::answer_of` meets its contract. By whether a rule is held. Assumes nothing.
 use mathlib.Core.Path.{sym, ap}
 use borrow.Author.Needs.{needs}
-use Rattle.depth2.specs.Course.{answerHeld}
+use Rattle.depth2.specs.Columns.{answerHeld}
 use Rattle.depth2.proofs.answer_of.Statement.{statement}
 use Rattle.depth2.proofs.answer_of.Tie as tie
 

@@ -1,0 +1,6 @@
+-- Laws of a column's turns, for other crates to cite.
+pub mod Queueing
+pub mod Places
+pub mod Steps
+pub mod Turns
+pub mod Loop

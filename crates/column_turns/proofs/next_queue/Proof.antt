@@ -1,0 +1,44 @@
+-- `column_turns::next_queue` meets its contract. By whether the column ends. Assumes nothing.
+use mathlib.Core.Path.{refl, sym, ap, _∙_}
+use Prim.Native.Nat.{_+_}
+use native.Mathlib.Omega.{arith}
+use mathlib.Core.List.{List, _++_, []}
+use borrow.Author.Needs.{needs}
+use mathlib.Core.Bool.{Bool}
+use Rattle.basics.specs.Choice.{pick}
+use Rattle.interval_pruner.specs.declared.Bound.{Bound}
+use Rattle.interval_queue.specs.Ring.{contents}
+use Rattle.cut_try.specs.Lent.{ringOf}
+use Rattle.column_turns.specs.Course.{partsQueued}
+use Rattle.column_turns.proofs.next_queue.Statement.{statement}
+use Rattle.column_turns.proofs.next_queue.Tie as tie
+
+returns : tie.Need-returns
+unfolding contents pick
+returns c =
+    let start = c .before .before .before in
+    let a = start .args in
+    let all : List Bound =
+    contents (ringOf (a .rows) (a .scratch .now)) (a .queue) ++ partsQueued (a .places .now) (a .reach .gap) (a .reach .small) (a .zeros) (a .reach .excess) (a .cut) (a .bound) in (
+      sym (ap (λ (b : Bool). pick b [] all) (c .if1 .taken)),
+      (record { head-in = start .pre .sane .head-in; few = omega arith }, record { size = refl; rest = refl; table-is = refl; ring-is = refl }),
+    )
+
+queue-parts-requires : tie.Need-queue-parts-requires
+queue-parts-requires c κs = search needs
+
+same-length : tie.Need-same-length
+same-length c = search needs
+
+returns-2 : tie.Need-returns-2
+unfolding pick
+returns-2 c =
+    let start = c .before .before .before .before .before .before .before in
+    let a = start .args in
+    let all : List Bound =
+    contents (ringOf (a .rows) (a .scratch .now)) (a .queue) ++ partsQueued (a .places .now) (a .reach .gap) (a .reach .small) (a .zeros) (a .reach .excess) (a .cut) (a .bound) in
+    let call = c .before .before .queue-parts in
+    (call .ensures .0 .contents-are ∙ sym (ap (λ (b : Bool). pick b [] all) (c .before .before .before .before .if1 .left)), (call .ensures .0 .sane, call .ensures .1))
+
+pub next-queue-spec : {M : Type 1} → statement M
+next-queue-spec = tie.close (tie.spec returns queue-parts-requires same-length returns-2)

@@ -1,0 +1,38 @@
+-- The search's state between two columns as the code keeps it, beside the definition's. Definitions, and what one must say of the other.
+use mathlib.Core.Path.{_≡_}
+use Prim.Native.Nat.{ℕ, _-_, _*_, _≤_}
+use mathlib.Core.Option.{Option, none, some}
+use Rattle.sheet.specs.declared.Terms.{Terms}
+use Rattle.sheet.specs.Sheet.{Sheet}
+use Rattle.tree.specs.declared.Answer.{Answer}
+use Rattle.tree.specs.declared.Answer.the-variants.{Kept, Found}
+use Rattle.column_turns.specs.declared.Held.{Held}
+use Rattle.column_turns.specs.declared.Held.the-variants.{Empty, Rule}
+use Rattle.column_turns.specs.declared.Standing.{Standing}
+use Rattle.column_turns.specs.Course.{mostTries}
+use Rattle.cut_try.specs.Try.{treeAt}
+use Rattle.depth2.specs.Search.{Progress, searchColumns, searched}
+
+-- the code's state for the definition's
+unfoldable pub heldOf : Sheet → ℕ → Option (ℕ × ℕ) → ℕ → Held
+heldOf s support none error = Empty
+heldOf s support (some cut) error = Rule (treeAt s support (cut .0) (cut .1) error)
+
+unfoldable pub standingOf : Sheet → ℕ → Progress → Standing
+standingOf s support p = record { error = p .error; tried = p .tried; held = heldOf s support (p .best) (p .error) }
+
+-- before the first column
+abbrev pub startOf : ℕ → Standing
+startOf error = record { error = error; tried = 0; held = Empty }
+
+-- what is answered
+unfoldable pub answerHeld : ℕ → ℕ → Held → Answer
+answerHeld error tried Empty = Kept error tried
+answerHeld error tried (Rule tree) = Found tree tried
+
+-- before column c, the standing is that of a progress from which the definition's columns come to its end
+pub record Between (s : Sheet) (t : Terms) (c : ℕ) (standing : Standing) : Type 0 where
+  pub progress : Progress
+  pub standing-is : standing ≡ standingOf s (t .support) progress
+  pub comes : searchColumns s t (s .columns - c) c progress ≡ searched s t
+  pub few : standing .tried ≤ c * mostTries
