@@ -10,6 +10,27 @@ ghost use Rattle.c_face.specs.Face.{sizeIn, termsIn, sheetIn, prepareAns
 use sheet::Size;
 use sheet::Terms;
 
+// A call's numbers, in their order; `COLUMN`, `CUT` and `TIMES` are those of `finder_scan` alone.
+const ROWS: usize = 0;
+
+const COLUMNS: usize = 1;
+
+const LABELS: usize = 2;
+
+const SUPPORT: usize = 3;
+
+const GAP: usize = 4;
+
+const ERROR: usize = 5;
+
+const BOUND: usize = 6;
+
+const COLUMN: usize = 7;
+
+const CUT: usize = 8;
+
+const TIMES: usize = 9;
+
 // A number of the call; 0 if it is not there.
 fn number(numbers: &[u32], at: usize) -> u32
     ensures { λ r. ⌜ r ≡ getD (now (numbers .entry)) at 0 ⌝ }
@@ -40,8 +61,8 @@ pub extern "C" fn finder_prepare(
     ensures lent { λ _. ⌜ PreparedOf (getD (now (numbers .entry)) 0 0) (getD (now (numbers .entry)) 1 0) (now (values .entry)) (now (order .entry)) (now (cuts .entry)) (now (counts .entry)) (prepareAnswer (now (numbers .entry)) (now (values .entry)) (now (order .entry)) (now (cuts .entry)) (now (counts .entry))) (now (order .exit)) (now (cuts .exit)) (now (counts .exit)) ⌝ }
     ensures answers { λ _. ⌜ now (answer .exit) ≡ preparedTold (prepareAnswer (now (numbers .entry)) (now (values .entry)) (now (order .entry)) (now (cuts .entry)) (now (counts .entry))) (now (answer .entry)) ⌝ }
 {
-    let rows = size_number(numbers, 0);
-    let columns = size_number(numbers, 1);
+    let rows = size_number(numbers, ROWS);
+    let columns = size_number(numbers, COLUMNS);
     let done = prepare::prepare(rows, columns, values, order, cuts, counts);
     c_words::tell_prepared(answer, done);
 }
@@ -49,9 +70,9 @@ pub extern "C" fn finder_prepare(
 fn size_in(numbers: &[u32]) -> Size
     ensures { λ r. ⌜ r ≡ sizeIn (now (numbers .entry)) ⌝ }
 {
-    let rows = size_number(numbers, 0);
-    let columns = size_number(numbers, 1);
-    let labels = size_number(numbers, 2);
+    let rows = size_number(numbers, ROWS);
+    let columns = size_number(numbers, COLUMNS);
+    let labels = size_number(numbers, LABELS);
     Size {
         rows,
         columns,
@@ -62,10 +83,10 @@ fn size_in(numbers: &[u32]) -> Size
 fn terms_in(numbers: &[u32]) -> Terms
     ensures { λ r. ⌜ r ≡ termsIn (now (numbers .entry)) ⌝ }
 {
-    let support = number(numbers, 3);
-    let gap = number(numbers, 4);
-    let error = number(numbers, 5);
-    let bound = number(numbers, 6);
+    let support = number(numbers, SUPPORT);
+    let gap = number(numbers, GAP);
+    let error = number(numbers, ERROR);
+    let bound = number(numbers, BOUND);
     Terms {
         support,
         gap,
@@ -133,9 +154,9 @@ pub extern "C" fn finder_scan(
 {
     let size = size_in(numbers);
     let terms = terms_in(numbers);
-    let column = size_number(numbers, 7);
-    let cut = size_number(numbers, 8);
-    let times = number(numbers, 9);
+    let column = size_number(numbers, COLUMN);
+    let cut = size_number(numbers, CUT);
+    let times = number(numbers, TIMES);
     let scanned = cut_scan::scan_cut(
         size,
         terms,

@@ -6,6 +6,11 @@ ghost use lib.Ieee.{binary64, toBits};
 ghost use Rattle.digits.specs.Digits.{digitOf, digitsOf, placesOf, decimalOf, hexOf, mostPlaces, hexPlaces};
 ghost use Rattle.digits.specs.Put.{Put};
 
+// The bases of the two ways that a number is written.
+const DECIMAL: u64 = 10;
+
+const HEX: u64 = 16;
+
 const HEX_PLACES: usize = 16;
 
 // What stands for a NaN, which has no bits of its own.
@@ -15,7 +20,7 @@ fn digit(d: u64) -> u8
     requires { ⌜ d < 16 ⌝ }
     ensures { λ r. ⌜ r ≡ digitOf d ⌝ }
 {
-    if d < 10 {
+    if d < DECIMAL {
         b'0' + d as u8
     } else {
         b'A' - 10 + d as u8
@@ -27,9 +32,9 @@ fn places(n: u64) -> usize
     ensures { λ r. ⌜ r ≡ placesOf n ⌝ }
 {
     let mut count: usize = 1;
-    let mut rest = n / 10;
+    let mut rest = n / DECIMAL;
     while rest > 0 {
-        rest /= 10;
+        rest /= DECIMAL;
         count += 1;
     }
     count
@@ -67,7 +72,7 @@ pub fn put_decimal(out: &mut [u8], at: usize, n: u64) -> usize
     ensures text { λ r. ⌜ Put (now (out .entry)) at (decimalOf n) r (now (out .exit)) ⌝ }
     ensures room { λ r. ⌜ r ≤ at + mostPlaces ⌝ }
 {
-    put_digits(out, at, 10, places(n), n)
+    put_digits(out, at, DECIMAL, places(n), n)
 }
 
 pub fn put_hex(out: &mut [u8], at: usize, bits: u64) -> usize
@@ -75,7 +80,7 @@ pub fn put_hex(out: &mut [u8], at: usize, bits: u64) -> usize
     ensures text { λ r. ⌜ Put (now (out .entry)) at (hexOf bits) r (now (out .exit)) ⌝ }
     ensures room { λ r. ⌜ r ≡ at + hexPlaces ⌝ }
 {
-    put_digits(out, at, 16, HEX_PLACES, bits)
+    put_digits(out, at, HEX, HEX_PLACES, bits)
 }
 
 // A double's bits.

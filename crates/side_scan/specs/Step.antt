@@ -83,9 +83,11 @@ Steppable t label = t .closed ≡ false → Ready t label
 
 -- ---- the same with no skip: the count up to which a side's rows are skipped stands for it, and the row of the previous value for that value
 
+-- a side's share of the sheet
 abbrev pub shareOf : SideScan → Share
 shareOf t = record { size = t .size; labels = t .labels; least = t .least }
 
+-- a side before a column's first row, and after one row more
 abbrev pub notBegun : Stand
 notBegun = record { counted = 0; until = 0; last = 0 }
 
