@@ -85,7 +85,7 @@ Numbered n marks sides = (r : ℕ) → r < n → getD sides r 0 ≡ sideNumber m
 
 -- what a list by the side's number has past its end
 abbrev pub noShare : Share
-noShare = record { size = 0; labels = 0; least = 0 }
+noShare = record { size = 0; least = 0; labels = 0 }
 
 abbrev pub noBest : Best
 noBest = record { score = 0; column = 0; threshold = nan; left = 0; right = 0; lost = 0; missed = 0 }
@@ -102,7 +102,7 @@ abbrev pub skipsAll : List Stand → List Share → ℕ → Bool
 skipsAll stand share k = leb (getD share k noShare .size) (getD stand k notBegun .until)
 
 abbrev pub bothSkip : List Stand → List Share → Bool
-bothSkip stand share = skipsAll stand share 0 && skipsAll stand share 1
+bothSkip stand share = skipsAll stand share 1 && skipsAll stand share 0
 
 -- What the scan of a column goes by: the lists are long enough, the order's entries are rows, the rows' codes are labels, and the rows to come add up to
 -- each side's own.

@@ -77,12 +77,12 @@ fn not_begun() -> Stand
     }
 }
 
-// No side has a cut to come that could be taken.
+// No side has a cut to come that could be taken. The right side is asked first: so the loop over the labels stays short in the compiled code.
 fn is_over(stand: [Stand; SIDES], share: [Share; SIDES]) -> bool
     ensures { λ r. ⌜ r ≡ bothSkip stand share ⌝ }
 {
-    if share[0].size <= stand[0].until {
-        share[1].size <= stand[1].until
+    if share[1].size <= stand[1].until {
+        share[0].size <= stand[0].until
     } else {
         false
     }

@@ -85,7 +85,7 @@ Steppable t label = t .closed ≡ false → Ready t label
 
 -- a side's share of the sheet
 abbrev pub shareOf : SideScan → Share
-shareOf t = record { size = t .size; labels = t .labels; least = t .least }
+shareOf t = record { size = t .size; least = t .least; labels = t .labels }
 
 -- a side before a column's first row, and after one row more
 abbrev pub notBegun : Stand

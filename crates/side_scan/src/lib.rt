@@ -40,11 +40,11 @@ pub struct SideScan {
     pub previous: f64,
 }
 
-// A side's share of the sheet: how many rows it has, how many labels the sheet has, and how many rows each part of a split must have.
+// A side's share of the sheet: how many rows it has, how many rows each part of a split must have, and how many labels the sheet has.
 pub struct Share {
     pub size: u32,
-    pub labels: usize,
     pub least: u32,
+    pub labels: usize,
 }
 
 // Where a side stands in a column: the rows counted, the count up to which its rows are skipped, and the last row counted.
@@ -286,8 +286,8 @@ pub fn share_of(side: SideScan) -> Share
 {
     Share {
         size: side.size,
-        labels: side.labels,
         least: side.least,
+        labels: side.labels,
     }
 }
 

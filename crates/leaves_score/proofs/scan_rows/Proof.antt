@@ -479,14 +479,14 @@ returns-2 c =
     let p = start (at m) in
     let a = p .args in
     let zs = standing d in
-    let ended : T (skipsAll zs (a .t2) 0 && skipsAll zs (a .t2) 1) = subst T (sym (c .if4 .taken) ∙ c .before .is-over .ensures) tt in
+    let ended : T (skipsAll zs (a .t2) 1 && skipsAll zs (a .t2) 0) = subst T (sym (c .if4 .taken) ∙ c .before .is-over .ensures) tt in
     let met-best : (k : ℕ) → k < 2 → getD (a .t2) k noShare .size ≤ getD zs k notBegun .until → getD (d .if3 .best) k noBest ≡ target (sheet (at m)) (a .sides .now) (a .column) (a .own .now) (a .t2) (a .t3) k .best =
     λ k l n. over (sheet (at m)) (a .sides .now) (a .column) (a .own .now) (a .t2) (a .t3) (head-at d .loop .i + 1) (d .if3 .best)
     (set (head-at d .loop .seen) (side m) (raised (counts m) (labelOf (sheet (at m)) (row (at m))))) (set zs (side m) (standAfter (getD zs (side m) notBegun) (row (at m)))) (scored d) k l
     (subst (λ (n : ℕ). getD (a .t2) k noShare .size ≤ n) (sym (until-kept zs (side m) (row (at m)) k (length-set (head-at d .loop .stand) (side m) _ ∙ head-at d .loop .inv .two-stand) (side-in m))) n) in
     leaves (sheet (at m)) (a .sides .now) (a .column) (a .own .now) (a .t2) (a .t3) (p .pre) (d .if3 .best)
-    (met-best 0 (omega arith) (leb→le _ _ (and-left (skipsAll zs (a .t2) 0) (skipsAll zs (a .t2) 1) ended)))
-    (met-best 1 (omega arith) (leb→le _ _ (and-right (skipsAll zs (a .t2) 0) (skipsAll zs (a .t2) 1) ended)))
+    (met-best 0 (omega arith) (leb→le _ _ (and-right (skipsAll zs (a .t2) 1) (skipsAll zs (a .t2) 0) ended)))
+    (met-best 1 (omega arith) (leb→le _ _ (and-left (skipsAll zs (a .t2) 1) (skipsAll zs (a .t2) 0) ended)))
 
 pub scan-rows-spec : {M : Type 1} → statement M
 scan-rows-spec =
