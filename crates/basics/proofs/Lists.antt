@@ -20,6 +20,11 @@ pub all-map {ℓ} : {A : Type ℓ} (P Q : A → Type 0) → ((a : A) → P a →
 all-map P Q f [] h = tt
 all-map P Q f (x ∷ xs) h = (f x (h .0), all-map P Q f xs (h .1))
 
+pub all-at : (P : ℕ → Type 0) (xs : List ℕ) (i : ℕ) → All P xs → i < length xs → P (getD xs i 0)
+all-at P [] i h l = absurd (omega arith)
+all-at P (x ∷ xs) zero h l = h .0
+all-at P (x ∷ xs) (suc i) h l = all-at P xs i (h .1) (omega arith)
+
 pub any-left {ℓ} : {A : Type ℓ} (P : A → Type 0) {xs : List A} (ys : List A) → Any P xs → Any P (xs ++ ys)
 any-left P ys (here h) = here h
 any-left P ys (there h) = there (any-left P ys h)

@@ -1,5 +1,6 @@
 // Shows the cuts of one column: nine measured aspect ratios, sorted. For each cut it prints its place, the threshold's bits, and how many
 // rows go left there, which is proved to be the place itself.
+use digits::HEX_PLACES;
 use libc::STDOUT_FILENO;
 
 fn print_cut(ratios: &[f64], at: usize, lower: f64, upper: f64) {
@@ -7,7 +8,7 @@ fn print_cut(ratios: &[f64], at: usize, lower: f64, upper: f64) {
     io::write_all(STDOUT_FILENO, b"cut place=");
     io::print_decimal(STDOUT_FILENO, at as u64);
     io::write_all(STDOUT_FILENO, b" at=");
-    io::print_hex(STDOUT_FILENO, digits::bits_of(threshold), 16);
+    io::print_hex(STDOUT_FILENO, digits::bits_of(threshold), HEX_PLACES);
     io::write_all(STDOUT_FILENO, b" left=");
     io::print_decimal(STDOUT_FILENO, parting::left_of_cut(ratios, at) as u64);
     io::write_all(STDOUT_FILENO, b"\n");

@@ -143,7 +143,7 @@ pub fn scan_cut(
                 scratch,
             );
             let lent = WORDS_PER_ROW * size.rows;
-            cut_try::clear(scratch, lent);
+            sheet::clear(scratch, lent);
             scanned
         }
     }

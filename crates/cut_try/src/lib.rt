@@ -7,10 +7,9 @@ ghost use mathlib.Core.Path.{_≡_};
 ghost use Prim.Native.Nat.{ℕ, _+_, _-_, _*_, _≤_, _<_};
 ghost use mathlib.Core.List.{List, []};
 ghost use lib.Dec.{ltb};
-ghost use lib.Ieee.{nan};
 ghost use lib.ListN.{length, getD};
 ghost use Rattle.basics.specs.Choice.{pick};
-ghost use Rattle.sheet.specs.Check.{sheetOf, cleared};
+ghost use Rattle.sheet.specs.Check.{sheetOf};
 ghost use Rattle.sheet.specs.Limits.{mostRows};
 ghost use Rattle.tree.specs.Answer.{sideError};
 ghost use Rattle.leaves_score.specs.Scan.{sidesOf};
@@ -56,15 +55,6 @@ fn mark_sides(size: Size, order: &[u16], column: usize, place: usize, marks: &mu
     }
 }
 
-// The value at a sorted place of the column whose entries start at base.
-fn value_at(values: &[f64], order: &[u16], base: usize, place: usize) -> f64
-    requires { ⌜ (base + place < length (now order)) × (base + getD (now order) (base + place) 0 < length (now values)) ⌝ }
-    ensures { λ r. ⌜ r ≡ getD (now (values .entry)) (base + getD (now (order .entry)) (base + place) 0) nan ⌝ }
-{
-    let row = wide(order[base + place]);
-    values[base + row]
-}
-
 // Where the lower value of a cut's threshold stands.
 fn preceding_place(cuts: &[u16], base: usize, cut: usize) -> usize
     requires { ⌜ base + cut < length (now cuts) ⌝ }
@@ -91,8 +81,8 @@ fn root_threshold(
     let base = column * size.rows;
     let from = preceding_place(cuts, base, cut);
     let place = wide(cuts[base + cut]);
-    let lower = value_at(values, order, base, from);
-    let upper = value_at(values, order, base, place);
+    let lower = sheet::value_at(values, order, base, from);
+    let upper = sheet::value_at(values, order, base, place);
     threshold::threshold_between(lower, upper)
 }
 
@@ -174,17 +164,5 @@ pub fn try_cut(
         threshold,
         left,
         right,
-    }
-}
-
-// The first words become 0.
-pub fn clear(scratch: &mut [u32], words: usize)
-    requires { ⌜ words ≤ length (now scratch) ⌝ }
-    ensures { λ _. ⌜ now (scratch .exit) ≡ cleared words (now (scratch .entry)) ⌝ }
-{
-    let mut i: usize = 0;
-    while i < words {
-        scratch[i] = 0;
-        i += 1;
     }
 }

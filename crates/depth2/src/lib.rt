@@ -99,7 +99,7 @@ pub fn search(
         Checked::Accepted => {
             let standing = search_columns(size, terms, values, codes, order, cuts, counts, scratch);
             let words = WORDS_PER_ROW * size.rows;
-            cut_try::clear(scratch, words);
+            sheet::clear(scratch, words);
             answer_of(standing)
         }
     }

@@ -11,7 +11,7 @@ const DECIMAL: u64 = 10;
 
 const HEX: u64 = 16;
 
-const HEX_PLACES: usize = 16;
+pub const HEX_PLACES: usize = 16;
 
 // What stands for a NaN, which has no bits of its own.
 const NAN_BITS: u64 = 0x7FF8_0000_0000_0000;

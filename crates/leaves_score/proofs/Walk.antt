@@ -130,9 +130,9 @@ module _ (s : Sheet) (sides : List ℕ) (c : ℕ) (left : Bool) (first : SideSca
 -- ---- both sides
 
 module _ (s : Sheet) (sides : List ℕ) (c : ℕ) (b : Two) (h : ReadyColumn s sides c b) where
-  pub ready-left : ReadySide s sides c true (b .left)
-  unfolding pick
-  ready-left =
+  ready-side : (left : Bool) (t : SideScan) → t .labels ≡ s .labels → t .size ≤ mostRows
+      → Live s (those (mine left sides) (rowsFrom s c (s .rows) 0)) (cleared t) → ReadySide s sides c left t
+  ready-side left t l m k =
       record {
         few = h .few;
         ordered = h .ordered;
@@ -140,25 +140,18 @@ module _ (s : Sheet) (sides : List ℕ) (c : ℕ) (b : Two) (h : ReadyColumn s s
         coded = h .coded;
         in-rows = h .in-rows;
         labelled = h .labelled;
-        labels = h .left-labels;
-        small = h .left-small;
-        live = h .left-live;
+        labels = l;
+        small = m;
+        live = k;
       }
+
+  pub ready-left : ReadySide s sides c true (b .left)
+  unfolding pick
+  ready-left = ready-side true (b .left) (h .left-labels) (h .left-small) (h .left-live)
 
   pub ready-right : ReadySide s sides c false (b .right)
   unfolding pick
-  ready-right =
-      record {
-        few = h .few;
-        ordered = h .ordered;
-        valued = h .valued;
-        coded = h .coded;
-        in-rows = h .in-rows;
-        labelled = h .labelled;
-        labels = h .right-labels;
-        small = h .right-small;
-        live = h .right-live;
-      }
+  ready-right = ready-side false (b .right) (h .right-labels) (h .right-small) (h .right-live)
 
   pub sides-walked : (l r : SideScan) → l ≡ walked s sides c true (b .left) → r ≡ walked s sides c false (b .right)
       → BothAlike (record { left = l; right = r }) (scanColumn s (goLeft sides) c b)

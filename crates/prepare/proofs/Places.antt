@@ -8,9 +8,8 @@ use lib.ListN.{length, getD}
 use lib.Dec.{T}
 use Rattle.basics.specs.Lists.{All, those}
 use Rattle.basics.proofs.Choice.{by-test, pick-true, reach, bit-false}
-use Rattle.basics.proofs.Lists.{all-map, all-those, length-those, tally-le}
+use Rattle.basics.proofs.Lists.{all-at, all-map, all-those, length-those, tally-le}
 use Rattle.row_sort.specs.Sorting.{rowsFrom}
-use Rattle.row_sort.proofs.Filling.{all-at}
 use Rattle.row_sort.proofs.Rows.{Within, all-rows, length-rows}
 
 -- each is below all that follow it

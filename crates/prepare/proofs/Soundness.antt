@@ -12,7 +12,7 @@ use lib.Dec.{T, T-not, leb}
 use lib.Ieee.{Float, nan}
 use Rattle.basics.specs.Lists.{tally, those, table}
 use Rattle.basics.proofs.Choice.{reach}
-use Rattle.basics.proofs.Lists.{getD-table, length-table}
+use Rattle.basics.proofs.Lists.{all-at, getD-table, length-table}
 use Rattle.order.specs.Order.{key, comparable}
 use Rattle.order.proofs.Order.{finite-comparable}
 use Rattle.threshold.specs.Laws.{Measured}
@@ -26,7 +26,6 @@ use Rattle.prepare.specs.Prepared.{columnOf, orderOf, isCut, cutsAlong, 
 use Rattle.row_sort.specs.Steps.{keyIn, Upto, Ascending, Comparable}
 use Rattle.prepare.specs.Laws.{preparedSheet, Taken, SoundColumns, SoundSheet, Determined}
 use Rattle.row_sort.proofs.Sorting.{ascending-sorted}
-use Rattle.row_sort.proofs.Filling.{all-at}
 use Rattle.prepare.proofs.Columns.{order-keys, order-rows, order-length}
 use Rattle.prepare.proofs.Cutting.{no-cut}
 use Rattle.prepare.proofs.Joining.{cuts-length, getD-joined}

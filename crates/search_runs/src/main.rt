@@ -1,6 +1,7 @@
 // Document 01's table T and its run cases, through the code. A case's line says what became of scratch: how many words are 0 from the start on, and
 // how many after them are as they were. The search's own answer follows as its listing.
 ghost use Prim.Native.Nat.{_≤_};
+use digits::HEX_PLACES;
 use libc::STDOUT_FILENO;
 use listing::LONGEST;
 use sheet::Size;
@@ -19,7 +20,7 @@ fn show_threshold(name: &[u8], lower: f64, upper: f64) {
     io::write_all(STDOUT_FILENO, name);
     io::write_all(STDOUT_FILENO, b": ");
     let threshold = threshold::threshold_between(lower, upper);
-    io::print_hex(STDOUT_FILENO, digits::bits_of(threshold), 16);
+    io::print_hex(STDOUT_FILENO, digits::bits_of(threshold), HEX_PLACES);
     io::write_all(STDOUT_FILENO, b"\n");
 }
 

@@ -77,7 +77,7 @@ fn wide8(x: u8) -> usize
 }
 
 // The first words become 0.
-fn clear(scratch: &mut [u32], words: usize)
+pub fn clear(scratch: &mut [u32], words: usize)
     requires { ⌜ words ≤ length (now scratch) ⌝ }
     ensures { λ _. ⌜ now (scratch .exit) ≡ cleared words (now (scratch .entry)) ⌝ }
 {
@@ -157,7 +157,7 @@ fn first_bad_order(size: Size, order: &[u16], marks: &mut [u32]) -> usize
 }
 
 // The value at a sorted place of the column whose entries start at base.
-fn value_at(values: &[f64], order: &[u16], base: usize, place: usize) -> f64
+pub fn value_at(values: &[f64], order: &[u16], base: usize, place: usize) -> f64
     requires { ⌜ (base + place < length (now order)) × (base + getD (now order) (base + place) 0 < length (now values)) ⌝ }
     ensures { λ r. ⌜ r ≡ getD (now (values .entry)) (base + getD (now (order .entry)) (base + place) 0) nan ⌝ }
 {

@@ -11,7 +11,7 @@ use lib.Ieee.{Float}
 use Rattle.basics.specs.Choice.{pick, bit}
 use Rattle.basics.specs.Lists.{All, tally, table}
 use Rattle.basics.proofs.Choice.{decide, order, bit-true, bit-false, bit-le}
-use Rattle.basics.proofs.Lists.{all-map, tally-none, tally-parts, getD-table, length-table}
+use Rattle.basics.proofs.Lists.{all-at, all-map, tally-none, tally-parts, getD-table, length-table}
 use Rattle.order.specs.Order.{key, comparable}
 use Rattle.sheet.specs.Sheet.{Sheet, labelOf, rowAt, valueAt, countOf, placeOf, everyRow, orderOf}
 use Rattle.sheet.specs.Sound.{Sound}
@@ -27,11 +27,6 @@ use Rattle.side_laws.proofs.Cuts.{rise-cut, parts-at, others-at, at-cut
 use Rattle.side_laws.proofs.Metric.{left-opt, right-opt}
 
 -- ---- a sorted list parts at a key
-
-at-all : (P : ℕ → Type 0) (xs : List ℕ) (i : ℕ) → All P xs → i < length xs → P (getD xs i 0)
-at-all P [] i h k = absurd (omega arith)
-at-all P (x ∷ xs) zero h k = h .0
-at-all P (x ∷ xs) (suc i) h k = at-all P xs i (h .1) (omega arith)
 
 none-up-to : (f : ℕ → ℕ) (t x : ℕ) (xs : List ℕ) → Sorted f (x ∷ xs) → t < f x → tally (λ r. leb (f r) t) (x ∷ xs) ≡ 0
 none-up-to f t x xs h g =
@@ -54,7 +49,7 @@ past f t (x ∷ xs) zero h k g = order (f x) t (λ l. absurd (omega (arith, bit-
 past f t (x ∷ xs) (suc i) h k g =
     order (f x) t
     (λ l. past f t xs i (h .1) (omega (arith, bit-true (leb (f x) t) (le→leb (f x) t l))) (omega arith))
-    (λ l. omega (arith, at-all (λ y. f x ≤ f y) xs i (h .0) (omega arith)))
+    (λ l. omega (arith, all-at (λ y. f x ≤ f y) xs i (h .0) (omega arith)))
 
 -- ---- every row has a place
 

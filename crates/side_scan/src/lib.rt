@@ -251,7 +251,7 @@ fn step(mut side: SideScan, column: usize, label: usize, value: f64) -> SideScan
 }
 
 // The same in place.
-pub fn advance(side: &mut SideScan, column: usize, label: usize, value: f64)
+fn advance(side: &mut SideScan, column: usize, label: usize, value: f64)
     requires { ⌜ Steppable (now side) label ⌝ }
     ensures { λ _. ⌜ now (side .exit) ≡ stepOf (now (side .entry)) column label value ⌝ }
 {
