@@ -126,10 +126,10 @@ fn prune(
     let small = is_small(terms.support);
     let best = smaller(error, terms.bound);
     let end = RING * rows;
-    if interval_pruner::subinterval_pruning(&scratch[..end], bound, gap, best, small) {
+    if subinterval_pruning::subinterval_pruning(&scratch[..end], bound, gap, best, small) {
         return Shrunk::Dropped;
     }
-    interval_pruner::interval_shrinking(places, &scratch[..end], zeros, bound, gap, best, small)
+    interval_shrinking::interval_shrinking(places, &scratch[..end], zeros, bound, gap, best, small)
 }
 
 // A part is queued if it is not empty.
@@ -207,7 +207,7 @@ fn queue_parts(
     if bound.first == bound.last {
         return queue;
     }
-    let parts = interval_pruner::neighbourhood_pruning(
+    let parts = neighbourhood_pruning::neighbourhood_pruning(
         places,
         zeros,
         reach.gap,

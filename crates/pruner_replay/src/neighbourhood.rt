@@ -31,7 +31,15 @@ fn parts(cuts: &[u16], bound: Bound, zeros: Zeros, term: u32) -> usize {
     let excess = term / CUTS / GAPS % DIFFERENCES;
     let small = term < SMALL_TERMS;
     let first = bound.first;
-    let found = interval_pruner::neighbourhood_pruning(cuts, zeros, gap, excess, first, cut, small);
+    let found = neighbourhood_pruning::neighbourhood_pruning(
+        cuts,
+        zeros,
+        gap,
+        excess,
+        first,
+        cut,
+        small,
+    );
     let start = start_of(found.upper, bound.last);
     let mut table = [0u32; 16];
     let after = interval_pruner::add_result(&mut table, zeros, cut, gap, excess);

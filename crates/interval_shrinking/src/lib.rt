@@ -1,0 +1,143 @@
+// Step 2 of one column's search (interval_pruner.rs): what is left of an interval after what was tried beside it.
+use interval_pruner::Bound;
+use interval_pruner::Shrunk;
+use interval_pruner::Tried;
+use interval_pruner::Zeros;
+ghost use mathlib.Core.Path.{_≡_};
+ghost use Prim.Native.Nat.{_^_, _<_};
+ghost use mathlib.Core.Bool.{true};
+ghost use mathlib.Core.List.{[]};
+ghost use Rattle.cuts.specs.Lookups.{Ascending};
+ghost use Rattle.interval_pruner.specs.Column.{columnOf};
+ghost use Rattle.interval_pruner.specs.Pruner.{past, short, within, startAfter, endAbove, endBefore, shrunkOf};
+
+fn wide(x: u32) -> usize
+    ensures { λ r. ⌜ r ≡ x ⌝ }
+    ensures fits { λ r. ⌜ r < 2 ^ 32 ⌝ }
+{
+    x as usize
+}
+
+// The interval from `first` to `last` that remembers what `bound` does, if it is not empty.
+fn between(bound: Bound, first: usize, last: usize) -> Shrunk
+    ensures { λ r. ⌜ r ≡ within bound first last ⌝ }
+{
+    if first <= last {
+        let left = bound.left;
+        let right = bound.right;
+        return Shrunk::To(Bound {
+            first,
+            last,
+            left,
+            right,
+        });
+    }
+    Shrunk::Dropped
+}
+
+// Past the highest cut with left error 0, and short of the lowest with right error 0.
+fn between_zeros(zeros: Zeros, bound: Bound) -> Shrunk
+    ensures { λ r. ⌜ r ≡ within bound (past (zeros .left) (bound .first)) (short (zeros .right) (bound .last)) ⌝ }
+{
+    let left = zeros.left;
+    let right = zeros.right;
+    let last = interval_pruner::short_of(right, bound.last);
+    match left {
+        Tried::Nothing => between(bound, bound.first, last),
+        Tried::Cut(z) => {
+            if z < last {
+                let first = interval_pruner::larger(bound.first, z + 1);
+                return between(bound, first, last);
+            }
+            Shrunk::Dropped
+        }
+    }
+}
+
+// The cuts near the one remembered on the left are too near to be better.
+fn away_from_left(cuts: &[u16], table: &[u32], bound: Bound, gap: u32, best: u32) -> Shrunk
+    ensures { λ r.
+        ⌜ (Ascending (now (cuts .entry)) →
+        r ≡ within bound (startAfter (columnOf (now (cuts .entry)) (now (table .entry)) gap true) best (bound .left) (bound .first)) (bound .last)) ⌝ }
+{
+    let first = bound.first;
+    let last = bound.last;
+    let left = bound.left;
+    match left {
+        Tried::Nothing => between(bound, first, last),
+        Tried::Cut(k) => {
+            let sum = interval_pruner::sum_at(table, k, gap);
+            let limit = wide(best);
+            if sum < limit {
+                return between(bound, first, last);
+            }
+            let nearest = cuts::place_at(cuts, k) + (sum - limit) + 1;
+            let start = cuts::lower_bound(cuts, first, last, nearest);
+            between(bound, start, last)
+        }
+    }
+}
+
+// The interval up to the first cut placed above `x`.
+fn up_to(cuts: &[u16], bound: Bound, x: usize) -> Shrunk
+    ensures { λ r.
+        ⌜ (Ascending (now (cuts .entry)) →
+        r ≡ endAbove (columnOf (now (cuts .entry)) [] 0 true) bound x (bound .first) (bound .last)) ⌝ }
+{
+    let first = bound.first;
+    let last = bound.last;
+    if x < cuts::place_at(cuts, first) {
+        return Shrunk::Dropped;
+    }
+    let end = cuts::upper_bound(cuts, first, last, x);
+    between(bound, first, interval_pruner::smaller(last, end))
+}
+
+// The cuts near the one remembered on the right are too near to be better.
+fn away_from_right(cuts: &[u16], table: &[u32], bound: Bound, gap: u32, best: u32) -> Shrunk
+    ensures { λ r.
+        ⌜ (Ascending (now (cuts .entry)) →
+        r ≡ endBefore (columnOf (now (cuts .entry)) (now (table .entry)) gap true) best (bound .right) bound (bound .first) (bound .last)) ⌝ }
+{
+    let right = bound.right;
+    match right {
+        Tried::Nothing => between(bound, bound.first, bound.last),
+        Tried::Cut(k) => {
+            let sum = interval_pruner::sum_at(table, k, gap);
+            let limit = wide(best);
+            if sum < limit {
+                return between(bound, bound.first, bound.last);
+            }
+            let x = interval_pruner::below(cuts::place_at(cuts, k), sum - limit + 1);
+            up_to(cuts, bound, x)
+        }
+    }
+}
+
+// What is left of an interval after what has been tried beside it.
+pub fn interval_shrinking(
+    cuts: &[u16],
+    table: &[u32],
+    zeros: Zeros,
+    bound: Bound,
+    gap: u32,
+    best: u32,
+    small: bool,
+) -> Shrunk
+    ensures { λ r.
+        ⌜ (Ascending (now (cuts .entry)) →
+        r ≡ shrunkOf (columnOf (now (cuts .entry)) (now (table .entry)) gap small) zeros best bound) ⌝ }
+{
+    if small {
+        let cleared = between_zeros(zeros, bound);
+        let Shrunk::To(open) = cleared else {
+            return Shrunk::Dropped;
+        };
+        let started = away_from_left(cuts, table, open, gap, best);
+        let Shrunk::To(rest) = started else {
+            return Shrunk::Dropped;
+        };
+        return away_from_right(cuts, table, rest, gap, best);
+    }
+    between(bound, bound.first, bound.last)
+}

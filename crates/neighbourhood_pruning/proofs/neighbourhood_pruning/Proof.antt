@@ -1,0 +1,59 @@
+-- `neighbourhood_pruning::neighbourhood_pruning` meets its contract: its two ends are the definition's. Assumes nothing.
+use borrow.Author.Needs.{needs}
+use mathlib.Core.Path.{_≡_, _∙_}
+use Prim.Native.Nat.{ℕ, _+_}
+use native.Mathlib.Omega.{arith}
+use mathlib.Core.Bool.{Bool}
+use mathlib.Core.List.{List, []}
+use Rattle.interval_pruner.specs.declared.Zeros.{Zeros}
+use Rattle.interval_pruner.specs.Column.{columnOf}
+use Rattle.interval_pruner.specs.Pruner.{upperFrom, lowerTo, lowerNear, partsOf}
+use Rattle.neighbourhood_pruning.proofs.neighbourhood_pruning.Statement.{statement}
+use Rattle.neighbourhood_pruning.proofs.neighbourhood_pruning.Tie as tie
+
+-- neither end depends on the gap but through the distance
+paired : (places : List ℕ) (gap : ℕ) (small : Bool) (z : Zeros) (excess m first d u l : ℕ) → d ≡ excess + gap
+    → u ≡ upperFrom (columnOf places [] 0 small) z d m → l ≡ lowerTo (columnOf places [] 0 small) z d m first
+    → record { upper = u; lower = l } ≡ partsOf (columnOf places [] gap small) z excess m first
+unfolding partsOf upperFrom lowerTo lowerNear
+paired places gap small z excess m first d u l e p q =
+    (λ i. record { upper = p i; lower = q i }) ∙
+    (λ i.
+    record {
+      upper = upperFrom (columnOf places [] gap small) z (e i) m;
+      lower = lowerTo (columnOf places [] gap small) z (e i) m first;
+    })
+
+wide-requires : tie.Need-wide-requires
+wide-requires c κs = search needs
+
+wide-requires-2 : tie.Need-wide-requires-2
+wide-requires-2 c κs = search needs
+
+add-distance : tie.Need-add-distance
+add-distance c = search needs
+
+upper-from-requires : tie.Need-upper-from-requires
+upper-from-requires c κs = search needs
+
+lower-to-requires : tie.Need-lower-to-requires
+lower-to-requires c κs = search needs
+
+returns : tie.Need-returns
+returns c =
+    let p = c .before .before in
+    let a = p .before .before .before .args in
+    λ l.
+    paired _ (a .gap) (a .small) (a .zeros) (a .excess) (a .cut) (a .first) _ _ _
+    (omega (arith, p .wide2 .ensures .0, p .before .wide .ensures .0)) (c .before .upper-from .ensures l) (c .lower-to .ensures (l .ascending))
+
+pub neighbourhood-pruning-spec : {M : Type 1} → statement M
+neighbourhood-pruning-spec =
+    tie.close
+    (tie.spec
+    wide-requires
+    wide-requires-2
+    add-distance
+    upper-from-requires
+    lower-to-requires
+    returns)
