@@ -14,15 +14,16 @@ use Rattle.basics.specs.Choice.{pick}
 use Rattle.basics.specs.Lists.{those}
 use Rattle.basics.proofs.Choice.{decide, neqb}
 use Rattle.sheet.specs.Sheet.{Sheet, valueOf, labelOf, rowAt}
-use Rattle.side_scan.specs.declared.Best.{Best}
-use Rattle.side_scan.specs.declared.Cut.{Cut}
-use Rattle.side_scan.specs.declared.Share.{Share}
-use Rattle.side_scan.specs.declared.Stand.{Stand}
+use Rattle.cut_score.specs.declared.Best.{Best}
+use Rattle.cut_score.specs.declared.Cut.{Cut}
+use Rattle.cut_score.specs.declared.Share.{Share}
+use Rattle.cut_score.specs.declared.Stand.{Stand}
 use Rattle.side_scan.specs.declared.SideScan.{SideScan}
-use Rattle.side_scan.specs.OneSide.{noRows, cleared, raised}
+use Rattle.best_counts.specs.Counts.{noRows}
+use Rattle.side_scan.specs.OneSide.{cleared, raised}
 use Rattle.leaves_score.specs.Scan.{other, scanColumn}
 use Rattle.leaves_score.specs.Kept.{rowsFrom, through, Live}
-use Rattle.side_scan.specs.Step.{notBegun, standAfter, splitBy, passed, cutOf}
+use Rattle.cut_score.specs.Scored.{notBegun, standAfter, splitBy, passed, cutOf}
 use Rattle.leaves_score.specs.Lists.{goLeft, noShare, noBest, atNumber, bothAt, ReadyColumn, Found}
 use Rattle.leaves_score.proofs.Coupled.{both-rows}
 use Rattle.leaves_score.proofs.Rows.{by-two}

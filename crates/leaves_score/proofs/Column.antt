@@ -15,14 +15,16 @@ use Rattle.basics.proofs.Choice.{order, reach, decide, same-bool, pick-true, pi
 use Rattle.basics.proofs.Lists.{tally-le}
 use Rattle.sheet.specs.Limits.{mostRows}
 use Rattle.sheet.specs.Sheet.{Sheet, valueOf, labelOf}
-use Rattle.side_scan.specs.declared.Best.{Best}
-use Rattle.side_scan.specs.declared.Cut.{Cut}
-use Rattle.side_scan.specs.declared.Verdict.{Verdict}
+use Rattle.cut_score.specs.declared.Best.{Best}
+use Rattle.cut_score.specs.declared.Cut.{Cut}
+use Rattle.cut_score.specs.declared.Verdict.{Verdict}
 use Rattle.side_scan.specs.declared.SideScan.{SideScan}
-use Rattle.side_scan.specs.OneSide.{nought, noRows, cleared, fallen, quiet, rowsLeft, rightBest, supported, takes, bestAfter, skipAfter, closes, totalOf, raised, countRow, onlyCounted, scored}
+use Rattle.best_counts.specs.Counts.{noRows, peaksOf}
+use Rattle.cut_score.specs.Scored.{fallen, verdictOf, splitBy, passed, untilAfter, cutOf, Scorable}
+use Rattle.side_scan.specs.OneSide.{nought, cleared, quiet, rowsLeft, rightBest, supported, takes, bestAfter, skipAfter, closes, totalOf, raised, countRow, onlyCounted, scored}
 use Rattle.leaves_score.specs.Scan.{rowStep}
 use Rattle.leaves_score.specs.Kept.{through, Counts, Open, Live}
-use Rattle.side_scan.specs.Step.{peaksOf, verdictOf, splitBy, passed, untilAfter, cutOf, Scorable, atStart}
+use Rattle.side_scan.specs.Step.{atStart}
 use Rattle.leaves_score.proofs.Counts.{counts-step}
 use Rattle.leaves_score.proofs.Live.{open-counted, open-scored}
 use Rattle.leaves_score.proofs.Single.{shut, frozen}

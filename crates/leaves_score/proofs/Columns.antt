@@ -17,7 +17,7 @@ use Rattle.sheet.specs.Limits.{mostLabels}
 use Rattle.sheet.specs.Sheet.{Sheet, valueOf, labelOf, rowAt, everyRow}
 use Rattle.sheet.proofs.Index.{column-in}
 use Rattle.side_scan.specs.declared.SideScan.{SideScan}
-use Rattle.side_scan.specs.declared.Best.{Best}
+use Rattle.cut_score.specs.declared.Best.{Best}
 use Rattle.leaves_score.specs.declared.Two.{Two}
 use Rattle.side_scan.specs.OneSide.{cleared, countRow, onlyCounted, scored, stepOf, leafLabel, leafScore, sideOf}
 use Rattle.leaves_score.specs.Scan.{other, sizeOf, labelled, ownOf, rowStep, stepBoth, ended, scanRows, scanColumn, perfect, scanColumns, startBoth, scanned}

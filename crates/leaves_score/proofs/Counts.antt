@@ -16,10 +16,11 @@ use Rattle.basics.proofs.Lists.{tally-le}
 use Rattle.sheet.specs.Limits.{mostLabels}
 use Rattle.sheet.specs.Sheet.{Sheet, labelOf}
 use Rattle.side_scan.specs.declared.SideScan.{SideScan}
-use Rattle.side_scan.specs.declared.Best.{Best}
-use Rattle.side_scan.specs.OneSide.{noRows, cleared, before, later, rowsLeft, leftBest, rightBest, totalOf, raised, countRow}
+use Rattle.cut_score.specs.declared.Best.{Best}
+use Rattle.best_counts.specs.Counts.{noRows}
+use Rattle.side_scan.specs.OneSide.{cleared, before, later, rowsLeft, leftBest, rightBest, totalOf, raised, countRow}
 use Rattle.leaves_score.specs.Kept.{Counts, Fits}
-use Rattle.side_scan.proofs.Commonest.{most-near, most-under}
+use Rattle.best_counts.proofs.Commonest.{most-near, most-under}
 
 -- ---- a label's count raised by one
 

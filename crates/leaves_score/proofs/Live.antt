@@ -16,9 +16,10 @@ use Rattle.sheet.specs.Limits.{mostLabels}
 use Rattle.sheet.specs.Sheet.{Sheet, valueOf, labelOf, rowAt, everyRow, orderOf}
 use Rattle.sheet.specs.Sound.{Limited, Sound}
 use Rattle.side_scan.specs.declared.SideScan.{SideScan}
-use Rattle.side_scan.specs.declared.Best.{Best}
+use Rattle.cut_score.specs.declared.Best.{Best}
 use Rattle.leaves_score.specs.declared.Two.{Two}
-use Rattle.side_scan.specs.OneSide.{cleared, fallen, quiet, totalOf, supported, takes, splitAt, bestAfter, skipAfter, closes, countRow, onlyCounted, scored, stepOf}
+use Rattle.cut_score.specs.Scored.{fallen}
+use Rattle.side_scan.specs.OneSide.{cleared, quiet, totalOf, supported, takes, splitAt, bestAfter, skipAfter, closes, countRow, onlyCounted, scored, stepOf}
 use Rattle.leaves_score.specs.Scan.{other, sizeOf, labelled, ownOf, startOf, rowStep, stepBoth}
 use Rattle.leaves_score.specs.Kept.{rowsFrom, Owns, Fits, Open, Live}
 use Rattle.leaves_score.proofs.Counts.{fits-step, total-step, fits-cleared}

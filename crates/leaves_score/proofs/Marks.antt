@@ -13,7 +13,7 @@ use Rattle.sheet.specs.Limits.{mostLabels}
 use Rattle.sheet.specs.Sheet.{Sheet, labelOf, rowAt, everyRow, leastRows}
 use Rattle.leaves_score.specs.declared.Two.{Two}
 use Rattle.side_scan.specs.declared.SideScan.{SideScan}
-use Rattle.side_scan.specs.Commonest.{mostOf}
+use Rattle.best_counts.specs.Commonest.{mostOf}
 use Rattle.side_scan.specs.OneSide.{leafBest, cleared, sideOf}
 use Rattle.leaves_score.specs.Scan.{other, sizeOf, labelled, ownOf, startOf, rowStep, stepBoth, ended, scanRows, scanColumn, perfect, scanColumns, startBoth, scanned, sidesOf}
 use Rattle.side_scan.specs.Step.{atStart}

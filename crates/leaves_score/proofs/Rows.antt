@@ -14,7 +14,8 @@ use Rattle.basics.proofs.Choice.{reach}
 use Rattle.basics.proofs.Lists.{tally-le, getD-table, length-table}
 use Rattle.sheet.specs.Limits.{mostLabels}
 use Rattle.sheet.specs.Sheet.{labelOf}
-use Rattle.side_scan.specs.OneSide.{noRows, raised}
+use Rattle.best_counts.specs.Counts.{noRows}
+use Rattle.side_scan.specs.OneSide.{raised}
 use Rattle.leaves_score.specs.Scan.{other, sizeOf, labelled, ownOf}
 use Rattle.leaves_score.specs.Lists.{goLeft, sideNumber, Numbered, rowsOnly}
 use Rattle.leaves_score.proofs.Counts.{raised-at, raised-long, none-at}

@@ -12,8 +12,9 @@ use Rattle.basics.specs.Choice.{pick}
 use Rattle.basics.proofs.Choice.{decide, either}
 use Rattle.sheet.specs.Sheet.{Sheet, valueOf, labelOf}
 use Rattle.side_scan.specs.declared.SideScan.{SideScan}
-use Rattle.side_scan.specs.declared.Best.{Best}
-use Rattle.side_scan.specs.OneSide.{nought, noRows, cleared, rowsLeft, bestAfter, countRow, onlyCounted, scored}
+use Rattle.cut_score.specs.declared.Best.{Best}
+use Rattle.best_counts.specs.Counts.{noRows}
+use Rattle.side_scan.specs.OneSide.{nought, cleared, rowsLeft, bestAfter, countRow, onlyCounted, scored}
 use Rattle.leaves_score.specs.Scan.{rowStep, idle}
 use Rattle.leaves_score.specs.Kept.{through, Live, Owns}
 use Rattle.leaves_score.proofs.Counts.{total-few, rows-left}

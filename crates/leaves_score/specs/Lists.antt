@@ -13,15 +13,16 @@ use Rattle.sheet.specs.Sheet.{Sheet, labelOf, rowAt, everyRow, orderOf}
 use Rattle.sheet.specs.Sound.{Limited}
 use Rattle.sheet.specs.declared.Size.{Size}
 use Rattle.leaves_score.specs.declared.Parted.{Parted}
-use Rattle.side_scan.specs.declared.Best.{Best}
-use Rattle.side_scan.specs.declared.Share.{Share}
-use Rattle.side_scan.specs.declared.Stand.{Stand}
+use Rattle.cut_score.specs.declared.Best.{Best}
+use Rattle.cut_score.specs.declared.Share.{Share}
+use Rattle.cut_score.specs.declared.Stand.{Stand}
 use Rattle.side_scan.specs.declared.SideScan.{SideScan}
 use Rattle.leaves_score.specs.declared.Two.{Two}
 use Rattle.side_scan.specs.OneSide.{cleared}
 use Rattle.leaves_score.specs.Scan.{other, sizeOf, ownOf, scanColumn}
 use Rattle.leaves_score.specs.Kept.{rowsFrom, through, Live}
-use Rattle.side_scan.specs.Step.{notBegun, atStart}
+use Rattle.cut_score.specs.Scored.{notBegun}
+use Rattle.side_scan.specs.Step.{atStart}
 
 -- the sheet that a scan reads: cuts are no part of it
 abbrev pub sheetOf : Size → List Float → List ℕ → List ℕ → Sheet

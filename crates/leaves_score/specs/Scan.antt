@@ -10,9 +10,10 @@ use Rattle.basics.specs.Lists.{tally, table}
 use Rattle.sheet.specs.Limits.{mostLabels}
 use Rattle.sheet.specs.Sheet.{Sheet, valueOf, labelOf, rowAt, everyRow, leastRows}
 use Rattle.side_scan.specs.declared.SideScan.{SideScan}
-use Rattle.side_scan.specs.Commonest.{mostOf}
+use Rattle.best_counts.specs.Commonest.{mostOf}
 use Rattle.side_scan.specs.OneSide as one
-use Rattle.side_scan.specs.OneSide.{nought, noRows, leafBest, cleared, rowsLeft, stepOf, sideOf}
+use Rattle.best_counts.specs.Counts.{noRows}
+use Rattle.side_scan.specs.OneSide.{nought, leafBest, cleared, rowsLeft, stepOf, sideOf}
 use Rattle.leaves_score.specs.declared.Sides.{Sides}
 use Rattle.leaves_score.specs.declared.Two.{Two}
 

@@ -7,19 +7,19 @@ ghost use lib.ListN.{length};
 ghost use Rattle.basics.specs.Choice.{pick};
 ghost use Rattle.sheet.specs.Limits.{mostRows};
 ghost use Rattle.sheet.specs.Sheet.{leastRows};
-ghost use Rattle.side_scan.specs.Step.{notBegun};
+ghost use Rattle.cut_score.specs.Scored.{notBegun};
 ghost use Rattle.leaves_score.specs.Scan.{scanColumn, perfect, scanned, sidesOf};
 ghost use Rattle.leaves_score.specs.Kept.{BothAlike};
 ghost use Rattle.leaves_score.specs.Lists.{sheetOf, goLeft, Numbered, bothAt, bothSkip, ReadyColumn, Found, ReadySide, walked, ReadyRows, partedOf, Scannable};
+use cut_score::Best;
+use cut_score::Share;
+use cut_score::Stand;
+use cut_score::score_cut;
+use cut_score::split_at;
 use sheet::MOST_LABELS;
 use sheet::MOST_ROWS;
 use sheet::Size;
-use side_scan::Best;
-use side_scan::Share;
 use side_scan::SideScan;
-use side_scan::Stand;
-use side_scan::score_cut;
-use side_scan::split_at;
 use tree::Side;
 
 // The left side is number 0, the right side number 1.
@@ -112,7 +112,7 @@ fn scan_rows(
         let label = label_number(codes[row]);
         let side = side_number(sides[row]);
         let was = stand[side];
-        if !side_scan::is_passed(values, base, row, was) {
+        if !cut_score::is_passed(values, base, row, was) {
             let cut = score_cut(&own[side], &seen[side], share[side], was, best[side].score);
             if cut.taken {
                 best[side] = split_at(cut.peaks, share[side], was, column, values, base, row);
@@ -123,7 +123,7 @@ fn scan_rows(
             }
         }
         seen[side][label] = seen[side][label] + 1;
-        stand[side] = side_scan::count_row(stand[side], row);
+        stand[side] = cut_score::count_row(stand[side], row);
         i += 1;
     }
     best

@@ -10,8 +10,9 @@ use Rattle.basics.specs.Lists.{All}
 use Rattle.basics.proofs.Choice.{by-ltb}
 use Rattle.sheet.specs.Sheet.{Sheet, valueOf, labelOf}
 use Rattle.side_scan.specs.declared.SideScan.{SideScan}
-use Rattle.side_scan.specs.declared.Best.{Best}
-use Rattle.side_scan.specs.OneSide.{fallen, leftBest, totalOf, splitAt, onlyCounted}
+use Rattle.cut_score.specs.declared.Best.{Best}
+use Rattle.cut_score.specs.Scored.{fallen}
+use Rattle.side_scan.specs.OneSide.{leftBest, totalOf, splitAt, onlyCounted}
 use Rattle.leaves_score.specs.Kept.{Fits}
 use Rattle.leaves_score.proofs.Counts.{fits-step, left-step, total-step, right-few}
 use Rattle.side_laws.specs.First.{better, firstBest}

@@ -11,7 +11,7 @@ use Rattle.side_scan.specs.declared.SideScan.{SideScan}
 use Rattle.side_scan.specs.OneSide.{ownAt, cleared, later, rightBest, totalOf, leafScore}
 use Rattle.leaves_score.specs.Scan.{startOf}
 use Rattle.leaves_score.specs.Kept.{Owns, Fits}
-use Rattle.side_scan.proofs.Commonest.{most-near}
+use Rattle.best_counts.proofs.Commonest.{most-near}
 use Rattle.leaves_score.proofs.Counts.{left-few}
 use Rattle.leaves_score.proofs.Live.{owns-start, start-fits}
 use Rattle.side_laws.specs.Alone.{columnAlone, columnsAlone, alone}

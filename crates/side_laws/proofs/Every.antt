@@ -14,8 +14,10 @@ use Rattle.basics.proofs.Choice.{by-test, decide, either, and-left, and-right, 
 use Rattle.sheet.specs.Sheet.{Sheet, valueOf, labelOf, orderOf}
 use Rattle.sheet.specs.Sound.{Sound}
 use Rattle.side_scan.specs.declared.SideScan.{SideScan}
-use Rattle.side_scan.specs.declared.Best.{Best}
-use Rattle.side_scan.specs.OneSide.{nought, noRows, cleared, fallen, quiet, rowsLeft, leftBest, rightBest, totalOf, supported, takes, splitAt, bestAfter, skipAfter, closes, countRow, onlyCounted, scored}
+use Rattle.cut_score.specs.declared.Best.{Best}
+use Rattle.best_counts.specs.Counts.{noRows}
+use Rattle.cut_score.specs.Scored.{fallen}
+use Rattle.side_scan.specs.OneSide.{nought, cleared, quiet, rowsLeft, leftBest, rightBest, totalOf, supported, takes, splitAt, bestAfter, skipAfter, closes, countRow, onlyCounted, scored}
 use Rattle.leaves_score.specs.Scan.{sizeOf, ownOf, startOf}
 use Rattle.leaves_score.specs.Kept.{through, Owns, Fits, Open}
 use Rattle.leaves_score.proofs.Counts.{rows-left}

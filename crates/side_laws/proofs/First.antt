@@ -13,7 +13,7 @@ use Rattle.basics.specs.Lists.{All}
 use Rattle.basics.proofs.Choice.{by-test, and-both, pick-true}
 use Rattle.sheet.specs.Sheet.{Sheet, valueOf}
 use Rattle.side_scan.specs.declared.SideScan.{SideScan}
-use Rattle.side_scan.specs.declared.Best.{Best}
+use Rattle.cut_score.specs.declared.Best.{Best}
 use Rattle.side_scan.specs.OneSide.{rowsLeft, leftBest, rightBest, totalOf, supported, splitAt, countRow, onlyCounted}
 use Rattle.leaves_score.specs.Kept.{Fits}
 use Rattle.leaves_score.proofs.Counts.{rows-left}

@@ -18,11 +18,12 @@ use Rattle.tree.specs.Answer.{sideError}
 use Rattle.tree.specs.declared.Side.{Side}
 use Rattle.tree.specs.declared.Side.the-variants.{Leaf, Split}
 use Rattle.side_scan.specs.declared.SideScan.{SideScan}
-use Rattle.side_scan.specs.declared.Best.{Best}
-use Rattle.side_scan.specs.OneSide.{cleared, fallen, before, later, leftBest, rightBest, totalOf, splitAt, countRow, onlyCounted}
+use Rattle.cut_score.specs.declared.Best.{Best}
+use Rattle.cut_score.specs.Scored.{fallen}
+use Rattle.side_scan.specs.OneSide.{cleared, before, later, leftBest, rightBest, totalOf, splitAt, countRow, onlyCounted}
 use Rattle.leaves_score.specs.Scan.{other, sizeOf, ownOf, startOf}
 use Rattle.leaves_score.specs.Kept.{Owns, Fits}
-use Rattle.side_scan.proofs.Commonest.{most}
+use Rattle.best_counts.proofs.Commonest.{most}
 use Rattle.leaves_score.proofs.Counts.{fits-step, later-is}
 use Rattle.leaves_score.proofs.Live.{own-at, owns-start, owns-cleared, start-fits}
 use Rattle.side_laws.specs.Alone.{columnAlone, columnsAlone, alone, sideAlone}

@@ -19,12 +19,12 @@ use Rattle.sheet.specs.Sound.{Sound}
 use Rattle.tree.specs.Answer.{sideError}
 use Rattle.tree.specs.declared.Side.the-variants.{Leaf, Split}
 use Rattle.side_scan.specs.declared.SideScan.{SideScan}
-use Rattle.side_scan.specs.declared.Best.{Best}
-use Rattle.side_scan.specs.Commonest.{commonest, mostOf}
+use Rattle.cut_score.specs.declared.Best.{Best}
+use Rattle.best_counts.specs.Commonest.{commonest, mostOf}
 use Rattle.side_scan.specs.OneSide.{ownAt, leafLabel, leafScore, sideOf}
 use Rattle.leaves_score.specs.Scan.{other, sizeOf, labelled, ownOf, startOf}
 use Rattle.leaves_score.specs.Kept.{Owns}
-use Rattle.side_scan.proofs.Commonest.{commonest-in}
+use Rattle.best_counts.proofs.Commonest.{commonest-in}
 use Rattle.leaves_score.proofs.Live.{own-at, owns-start}
 use Rattle.side_laws.specs.Alone.{alone, sideAlone}
 use Rattle.side_laws.specs.Told.{leftPart, rightPart, wrongOf, SplitTold, Told, Tells, ErrorsAddUp}

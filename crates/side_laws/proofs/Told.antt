@@ -18,12 +18,13 @@ use Rattle.threshold.specs.Threshold.{thresholdOf}
 use Rattle.sheet.specs.Sheet.{Sheet, valueOf, labelOf, everyRow, orderOf, leastRows}
 use Rattle.sheet.specs.Sound.{Sound}
 use Rattle.side_scan.specs.declared.SideScan.{SideScan}
-use Rattle.side_scan.specs.declared.Best.{Best}
-use Rattle.side_scan.specs.Commonest.{commonest, mostOf}
-use Rattle.side_scan.specs.OneSide.{cleared, fallen, quiet, before, later, rowsLeft, leftBest, rightBest, totalOf, supported, takes, splitAt, bestAfter, countRow, onlyCounted, scored}
+use Rattle.cut_score.specs.declared.Best.{Best}
+use Rattle.best_counts.specs.Commonest.{commonest, mostOf}
+use Rattle.cut_score.specs.Scored.{fallen}
+use Rattle.side_scan.specs.OneSide.{cleared, quiet, before, later, rowsLeft, leftBest, rightBest, totalOf, supported, takes, splitAt, bestAfter, countRow, onlyCounted, scored}
 use Rattle.leaves_score.specs.Scan.{sizeOf, ownOf, startOf}
 use Rattle.leaves_score.specs.Kept.{through, Owns, Fits, Live}
-use Rattle.side_scan.proofs.Commonest.{commonest-in}
+use Rattle.best_counts.proofs.Commonest.{commonest-in}
 use Rattle.leaves_score.proofs.Counts.{later-is, rows-left, left-few, right-few}
 use Rattle.leaves_score.proofs.Live.{best-taken, best-left, step-open, step-closed, open-counted, open-scored, owns-start, owns-cleared, start-live}
 use Rattle.side_laws.specs.Alone.{columnAlone, columnsAlone, alone}

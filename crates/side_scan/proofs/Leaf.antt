@@ -1,41 +1,17 @@
--- Before a row is counted all of a side's rows are to come, so the best count from there on is the commonest label's. Assumes nothing.
-use Prim.Native.Nat.{ℕ, zero, suc, _-_, _≤_}
-use native.Mathlib.Omega.{arith}
-use mathlib.Core.Path.{_≡_, refl, sym, ap, subst, fun-ext, _∙_}
+-- The side that a scan ends in: its leaf's label and count are the commonest label's. Assumes nothing.
+use Prim.Native.Nat.{ℕ, _-_, _≤_}
+use mathlib.Core.Path.{_≡_, sym, ap, subst, _∙_}
 use mathlib.Core.Bool.{Bool}
-use mathlib.Core.List.{List}
 use borrow.Author.Tests.{eq-eqb, ne-eqb}
-use lib.ListN.{getD, replicate}
 use Rattle.basics.specs.Choice.{pick}
 use Rattle.tree.specs.declared.Side.{Side}
 use Rattle.tree.specs.declared.Side.the-variants.{Leaf, Split}
-use Rattle.sheet.specs.Limits.{mostLabels}
 use Rattle.side_scan.specs.declared.SideScan.{SideScan}
-use Rattle.side_scan.specs.declared.Peak.{Peak}
-use Rattle.side_scan.specs.declared.Peaks.{Peaks}
-use Rattle.side_scan.specs.Commonest.{commonest, mostOf}
-use Rattle.side_scan.specs.OneSide.{noRows, leafLabel, leafScore, sideOf}
-use Rattle.side_scan.specs.Step.{counted, coming, Countable, peaksOf, peakOf, Sized}
-use Rattle.side_scan.proofs.Commonest.{most-under}
-
-none-there : (n l : ℕ) → _≡_ {A = ℕ} (getD (replicate n 0) l 0) 0
-none-there zero l = refl
-none-there (suc n) zero = refl
-none-there (suc n) (suc l) = none-there n l
-
-all-to-come : (own : List ℕ) → coming own noRows ≡ counted own
-all-to-come own = fun-ext (λ l. omega (arith, none-there mostLabels l))
-
-pub countable-none : (own : List ℕ) (labels : ℕ) → 1 ≤ labels → labels ≤ mostLabels → Countable own noRows labels
-countable-none own labels h k = record { some = h; few = k; within = λ l _. omega (arith, none-there mostLabels l) }
-
-pub leaf-is : (own : List ℕ) (labels : ℕ) (p : Peaks) → p ≡ peaksOf own noRows labels → record { label = p .right; count = p .after } ≡ peakOf own labels
-unfolding peaksOf peakOf
-leaf-is own labels p e =
-    ap (λ (p : Peaks). record { label = p .right; count = p .after }) e
-    ∙ ap (λ (f : ℕ → ℕ). record { label = commonest f labels; count = mostOf f labels }) (all-to-come own)
-
--- ---- the side that a scan ends in
+use Rattle.best_counts.specs.declared.Peak.{Peak}
+use Rattle.side_scan.specs.OneSide.{leafLabel, leafScore, sideOf}
+use Rattle.best_counts.specs.Counts.{counted, peakOf}
+use Rattle.side_scan.specs.Step.{Sized}
+use Rattle.best_counts.proofs.Commonest.{most-under}
 
 module _ (t : SideScan) (leaf : Peak) (e : leaf ≡ peakOf (t .own) (t .labels)) where
   pub leaf-count : leaf .count ≡ leafScore t

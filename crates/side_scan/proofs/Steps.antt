@@ -1,27 +1,25 @@
 -- What the calls of a row's step say, put together: the row is only counted, or its cut is judged and split first. By numbers and over the record the
 -- definitions are the same. Assumes nothing.
-use Prim.Native.Nat.{ℕ, _+_, _-_, _≤_, _<_}
-use mathlib.Core.Path.{_≡_, refl, sym, ap, subst, _∙_}
-use mathlib.Core.Bool.{Bool, true, false, not, _&&_, _||_}
-use mathlib.Core.List.{List}
-use lib.Dec.{T, leb, ltb, eqb, nleb→lt}
+use Prim.Native.Nat.{ℕ}
+use mathlib.Core.Path.{_≡_, refl, sym, ap, _∙_}
+use mathlib.Core.Bool.{Bool, true, false, _&&_, _||_}
+use lib.Dec.{ltb}
 use lib.Ieee.{Float, eq}
 use Rattle.basics.specs.Choice.{pick}
-use Rattle.basics.proofs.Choice.{nor-right}
-use Rattle.side_scan.specs.declared.Best.{Best}
+use Rattle.cut_score.specs.declared.Best.{Best}
 use Rattle.side_scan.specs.declared.SideScan.{SideScan}
-use Rattle.side_scan.specs.declared.Peaks.{Peaks}
-use Rattle.side_scan.specs.declared.Verdict.{Verdict}
-use Rattle.side_scan.specs.declared.Cut.{Cut}
-use Rattle.side_scan.specs.OneSide.{fallen, before, quiet, rowsLeft, leftBest, rightBest, totalOf, supported, takes, splitAt, bestAfter, skipAfter, closes, countRow, onlyCounted, scored, stepOf}
-use Rattle.side_scan.specs.Step.{counted, coming, peaksOf, verdictOf, splitBy, untilAfter, cutOf, Ready, Scorable}
-use Rattle.side_scan.proofs.Commonest.{most-under}
+use Rattle.best_counts.specs.declared.Peaks.{Peaks}
+use Rattle.cut_score.specs.declared.Verdict.{Verdict}
+use Rattle.cut_score.specs.Scored.{fallen, verdictOf, splitBy, Scorable}
+use Rattle.side_scan.specs.OneSide.{quiet, rowsLeft, leftBest, rightBest, totalOf, supported, takes, splitAt, bestAfter, skipAfter, closes, countRow, onlyCounted, scored, stepOf}
+use Rattle.best_counts.specs.Counts.{peaksOf}
+use Rattle.side_scan.specs.Step.{Ready}
 
 -- the row counted, with the rest as it is
 abbrev pub counting : ℕ → Float → SideScan → SideScan
 counting label value t = countRow t (t .best) (t .skip) (t .closed) label value
 
--- ---- what the parts of a step ask
+-- ---- what a cut asks
 
 pub scorable : (t : SideScan) (label : ℕ) → Ready t label → Scorable (t .own) (t .seen) (t .labels) (t .counted) (t .size)
 scorable t label r =
@@ -32,35 +30,6 @@ scorable t label r =
       seen = r .seen;
       left = r .left;
     }
-
--- no label has more rows than there are before the cut, or from it on
-module _ (own seen : List ℕ) (labels rows size : ℕ) (h : Scorable own seen labels rows size) (p : Peaks) (e : p ≡ peaksOf own seen labels) where
-  pub first-in : p .before ≤ rows
-  unfolding peaksOf
-  first-in = subst (λ (p : Peaks). p .before ≤ rows) (sym e) (most-under (counted seen) labels rows (h .countable .some) (h .seen))
-
-  pub second-in : p .after ≤ size - rows
-  unfolding peaksOf
-  second-in = subst (λ (p : Peaks). p .after ≤ size - rows) (sym e) (most-under (coming own seen) labels (size - rows) (h .countable .some) (h .left))
-
--- a side that does not close skips fewer rows than are to come
-pub skips-less : (p : Peaks) (rows rest least score skip : ℕ) (v : Verdict) → v ≡ verdictOf p rows rest least score skip → v .closed ≡ false → v .skip < rest
-unfolding verdictOf
-skips-less p rows rest least score skip v e n =
-    nleb→lt rest (v .skip) (nor-right (eqb (p .after) rest) (leb rest (v .skip)) (subst (λ (b : Bool). T (not b)) (sym n ∙ same) tt))
-  where
-    same : v .closed ≡ (eqb (p .after) rest || leb rest (v .skip))
-    same = ap (λ (v : Verdict). v .closed) e ∙ sym (ap (λ (v : Verdict). eqb (p .after) rest || leb rest (v .skip)) e)
-
--- a scored cut, from what its calls say
-pub cut-is : (own seen : List ℕ) (labels rows size least score : ℕ) (p : Peaks) (v : Verdict) (u : ℕ) → p ≡ peaksOf own seen labels
-    → v ≡ verdictOf p rows (size - rows) least score 0 → u ≡ untilAfter v (rows + 1) size
-    → _≡_ {A = Cut} (record { peaks = p; taken = v .taken; until = u }) (cutOf own seen labels rows size least score)
-unfolding cutOf
-cut-is own seen labels rows size least score p v u ep ev eu =
-    ap (λ (u : ℕ). record { peaks = p; taken = v .taken; until = u }) eu
-    ∙ ap (λ (v : Verdict). record { peaks = p; taken = v .taken; until = untilAfter v (rows + 1) size }) ev
-    ∙ ap (λ (p : Peaks). record { peaks = p; taken = verdictOf p rows (size - rows) least score 0 .taken; until = untilAfter (verdictOf p rows (size - rows) least score 0) (rows + 1) size }) ep
 
 -- ---- the two ways of a row of an open side
 

@@ -1,3 +1,2 @@
-pub mod Commonest
 pub mod OneSide
 pub mod Step

@@ -3,25 +3,23 @@
 use Prim.Native.Nat.{ℕ, _+_, _-_}
 use mathlib.Core.Bool.{Bool, true, false, _&&_, _||_}
 use mathlib.Core.List.{List}
-use lib.ListN.{getD, set, replicate}
+use lib.ListN.{getD, set}
 use lib.Dec.{leb, ltb, eqb}
 use lib.IntN.{pos}
 use lib.Ieee.{Float, fin, eq}
 use Rattle.basics.specs.Choice.{pick}
 use Rattle.threshold.specs.Threshold.{thresholdOf}
-use Rattle.sheet.specs.Limits.{mostLabels}
 use Rattle.tree.specs.declared.Side.{Side}
 use Rattle.tree.specs.declared.Side.the-variants.{Leaf, Split}
-use Rattle.side_scan.specs.declared.Best.{Best}
+use Rattle.cut_score.specs.declared.Best.{Best}
 use Rattle.side_scan.specs.declared.SideScan.{SideScan}
-use Rattle.side_scan.specs.Commonest.{commonest, mostOf}
+use Rattle.best_counts.specs.Commonest.{commonest, mostOf}
+use Rattle.best_counts.specs.Counts.{noRows}
+use Rattle.cut_score.specs.Scored.{fallen}
 
 -- 0.0
 abbrev pub nought : Float
 nought = fin false 0 (pos 0)
-
-abbrev pub noRows : List ℕ
-noRows = replicate mostLabels 0
 
 -- ---- "A side starts as a leaf: its commonest label, smallest code on ties; its score is that count."
 
@@ -56,10 +54,6 @@ cleared t =
     }
 
 -- ---- a row of an open side
-
--- "skip falls by 1, not below 0"
-abbrev pub fallen : ℕ → ℕ
-fallen skip = skip - 1
 
 -- "If the value equals the side's previous one, or skip is still above 0, the row is only counted." A side's first row has no previous value.
 unfoldable pub quiet : SideScan → Float → Bool

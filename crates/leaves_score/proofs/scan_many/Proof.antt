@@ -2,7 +2,7 @@
 use mathlib.Core.Path.{_≡_, sym, ap₂, subst}
 use mathlib.Core.List.{List, [], _∷_}
 use borrow.Author.Needs.{needs}
-use Rattle.side_scan.specs.declared.Share.{Share}
+use Rattle.cut_score.specs.declared.Share.{Share}
 use Rattle.side_scan.specs.Step.{shareOf}
 use Rattle.leaves_score.specs.Lists.{sheetOf, bothAt, ReadyColumn, Found}
 use Rattle.leaves_score.proofs.Columns.{ready-level, column-found}

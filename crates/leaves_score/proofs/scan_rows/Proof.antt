@@ -13,16 +13,17 @@ use Rattle.basics.specs.Choice.{pick}
 use Rattle.basics.proofs.Choice.{and-left, and-right}
 use Rattle.sheet.specs.Limits.{mostRows}
 use Rattle.sheet.specs.Sheet.{Sheet, valueOf, labelOf, rowAt}
-use Rattle.side_scan.specs.declared.Best.{Best}
-use Rattle.side_scan.specs.declared.Cut.{Cut}
-use Rattle.side_scan.specs.OneSide.{noRows, raised}
-use Rattle.side_scan.specs.declared.Share.{Share}
-use Rattle.side_scan.specs.declared.Stand.{Stand}
-use Rattle.side_scan.specs.Step.{notBegun, standAfter, peaksOf, splitBy, passed, cutOf, Scorable}
+use Rattle.cut_score.specs.declared.Best.{Best}
+use Rattle.cut_score.specs.declared.Cut.{Cut}
+use Rattle.best_counts.specs.Counts.{noRows, peaksOf}
+use Rattle.side_scan.specs.OneSide.{raised}
+use Rattle.cut_score.specs.declared.Share.{Share}
+use Rattle.cut_score.specs.declared.Stand.{Stand}
+use Rattle.cut_score.specs.Scored.{notBegun, standAfter, splitBy, passed, cutOf, Scorable}
 use Rattle.leaves_score.specs.Lists.{sheetOf, noShare, noBest, skipsAll}
 use Rattle.leaves_score.proofs.Places.{below, place-in, twice-in, within-list}
 use Rattle.leaves_score.proofs.Rows.{by-two}
-use Rattle.side_scan.proofs.Steps.{first-in, second-in}
+use Rattle.cut_score.proofs.Scored.{first-in, second-in}
 use Rattle.leaves_score.proofs.Column.{Stands, scorable}
 use Rattle.leaves_score.proofs.Abreast.{began, target, to-come, Abreast, Changed, set-at, unset, here, passes-on, scores-on, over, all-met, until-kept, opens, leaves}
 use Rattle.leaves_score.proofs.scan_rows.Statement.{statement}

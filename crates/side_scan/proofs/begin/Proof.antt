@@ -1,6 +1,7 @@
 -- `side_scan::begin` meets its contract: the leaf's count is the callee's. Assumes nothing.
 use lib.Ieee.{ofBits}
-use Rattle.side_scan.specs.Step.{peakOf, leafScan}
+use Rattle.best_counts.specs.Counts.{peakOf}
+use Rattle.side_scan.specs.Step.{leafScan}
 use borrow.Author.Needs.{needs}
 use Rattle.side_scan.proofs.begin.Statement.{statement}
 use Rattle.side_scan.proofs.begin.Tie as tie

@@ -11,8 +11,10 @@ use lib.Ieee.{Float}
 use Rattle.basics.specs.Choice.{pick}
 use Rattle.side_scan.specs.declared.SideScan.{SideScan}
 use Rattle.side_scan.specs.OneSide.{rowsLeft, countRow, raised, stepOf}
-use Rattle.side_scan.specs.Step.{Ready, Scorable}
-use Rattle.side_scan.proofs.Steps.{counting, scorable, first-in, second-in, stays-closed, only, cuts}
+use Rattle.cut_score.specs.Scored.{Scorable}
+use Rattle.side_scan.specs.Step.{Ready}
+use Rattle.cut_score.proofs.Scored.{first-in, second-in}
+use Rattle.side_scan.proofs.Steps.{counting, scorable, stays-closed, only, cuts}
 use Rattle.side_scan.proofs.step.Statement.{statement}
 use Rattle.side_scan.proofs.step.Tie as tie
 

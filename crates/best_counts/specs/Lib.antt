@@ -1,0 +1,2 @@
+pub mod Commonest
+pub mod Counts

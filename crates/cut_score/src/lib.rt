@@ -1,0 +1,232 @@
+// One cut of a side scored, by numbers: which rows are only counted, what the cut comes to, and the split that it makes.
+ghost use mathlib.Core.Path.{_≡_};
+ghost use mathlib.Core.Bool.{false, _&&_, _||_};
+ghost use Prim.Native.Nat.{_+_, _-_, _≤_, _<_};
+ghost use lib.Dec.{leb, ltb, eqb};
+ghost use lib.Ieee.{nan, eq};
+ghost use lib.ListN.{length, getD};
+ghost use Rattle.sheet.specs.Limits.{mostRows};
+ghost use Rattle.cut_score.specs.Scored.{fallen, verdictOf, splitBy, standAfter, passed, untilAfter, Scorable, cutOf};
+use best_counts::Peaks;
+use best_counts::find_peaks;
+use sheet::MOST_LABELS;
+
+// The best that a side has found: the rows that it gets right, and the split that does. Before a split is taken only the score is read.
+pub struct Best {
+    pub score: u32,
+    pub column: usize,
+    pub threshold: f64,
+    pub left: usize,
+    pub right: usize,
+    pub lost: u32,
+    pub missed: u32,
+}
+
+// A side's share of the sheet: how many rows it has, how many rows each part of a split must have, and how many labels the sheet has.
+pub struct Share {
+    pub size: u32,
+    pub least: u32,
+    pub labels: usize,
+}
+
+// Where a side stands in a column: the rows counted, the count up to which its rows are skipped, and the last row counted.
+pub struct Stand {
+    pub counted: u32,
+    pub until: u32,
+    pub last: usize,
+}
+
+// What a scored cut comes to: whether its split is taken, its total, the new skip, and whether the side closes.
+pub struct Verdict {
+    pub taken: bool,
+    pub total: u32,
+    pub skip: u32,
+    pub closed: bool,
+}
+
+// A scored cut: the best counts about it, whether its split is taken, and the count up to which the side's rows are skipped.
+pub struct Cut {
+    pub peaks: Peaks,
+    pub taken: bool,
+    pub until: u32,
+}
+
+pub fn fall(skip: u32) -> u32
+    ensures { λ r. ⌜ r ≡ fallen skip ⌝ }
+{
+    if skip == 0 { 0 } else { skip - 1 }
+}
+
+// A side's first row has no previous value.
+fn is_same(started: bool, previous: f64, value: f64) -> bool
+    ensures { λ r. ⌜ r ≡ (started && eq previous value) ⌝ }
+{
+    if started { previous == value } else { false }
+}
+
+// So the cut before a side's first row is scored.
+pub fn is_quiet(started: bool, previous: f64, value: f64, skip: u32) -> bool
+    ensures { λ r. ⌜ r ≡ ((started && eq previous value) || ltb 0 skip) ⌝ }
+{
+    if is_same(started, previous, value) {
+        return true;
+    }
+    0 < skip
+}
+
+// The difference, not below 0.
+fn minus(more: u32, less: u32) -> u32
+    ensures { λ r. ⌜ r ≡ more - less ⌝ }
+{
+    if less < more { more - less } else { 0 }
+}
+
+fn is_taken(counted: u32, rest: u32, least: u32, score: u32, total: u32) -> bool
+    ensures { λ r. ⌜ r ≡ ((leb least counted && leb least rest) && ltb score total) ⌝ }
+{
+    if counted < least {
+        return false;
+    }
+    if rest < least {
+        return false;
+    }
+    score < total
+}
+
+fn is_closed(after: u32, rest: u32, skip: u32) -> bool
+    ensures { λ r. ⌜ r ≡ (eqb after rest || leb rest skip) ⌝ }
+{
+    if after == rest {
+        return true;
+    }
+    rest <= skip
+}
+
+// The cut before a row, judged by numbers alone: `rest` counts the rows from it on, `skip` has fallen already.
+pub fn judge(peaks: Peaks, counted: u32, rest: u32, least: u32, score: u32, skip: u32) -> Verdict
+    requires { ⌜ peaks .before + peaks .after ≤ mostRows ⌝ }
+    ensures { λ r. ⌜ r ≡ verdictOf peaks counted rest least score skip ⌝ }
+{
+    let total = peaks.before + peaks.after;
+    if is_taken(counted, rest, least, score, total) {
+        let closed = is_closed(peaks.after, rest, skip);
+        return Verdict {
+            taken: true,
+            total,
+            skip,
+            closed,
+        };
+    }
+    let next = minus(score, total);
+    let closed = is_closed(peaks.after, rest, next);
+    Verdict {
+        taken: false,
+        total,
+        skip: next,
+        closed,
+    }
+}
+
+// The split of a cut.
+pub fn split_of(
+    peaks: Peaks,
+    counted: u32,
+    rest: u32,
+    column: usize,
+    previous: f64,
+    value: f64,
+) -> Best
+    requires { ⌜ (peaks .before ≤ counted) × (peaks .after ≤ rest) × (peaks .before + peaks .after ≤ mostRows) ⌝ }
+    ensures { λ r. ⌜ r ≡ splitBy peaks counted rest column previous value ⌝ }
+{
+    let threshold = threshold::threshold_between(previous, value);
+    Best {
+        score: peaks.before + peaks.after,
+        column,
+        threshold,
+        left: peaks.left,
+        right: peaks.right,
+        lost: counted - peaks.before,
+        missed: rest - peaks.after,
+    }
+}
+
+// A row is counted.
+pub fn count_row(stand: Stand, row: usize) -> Stand
+    requires { ⌜ stand .counted < mostRows ⌝ }
+    ensures { λ r. ⌜ r ≡ standAfter stand row ⌝ }
+{
+    Stand {
+        counted: stand.counted + 1,
+        until: stand.until,
+        last: row,
+    }
+}
+
+// Whether a row is only counted: it is skipped, for its side counts `until` rows first, or its value is the side's previous one, that of row `last`.
+pub fn is_passed(values: &[f64], base: usize, row: usize, stand: Stand) -> bool
+    requires { ⌜ (base + stand .last < length (now values)) × (base + row < length (now values)) × (stand .counted < mostRows) ⌝ }
+    ensures { λ r. ⌜ r ≡ passed (now (values .entry)) base row (stand .last) (stand .counted) (stand .until) ⌝ }
+{
+    if stand.counted + 1 < stand.until {
+        return true;
+    }
+    is_same(
+        0 < stand.counted,
+        values[base + stand.last],
+        values[base + row],
+    )
+}
+
+// The count up to which a side's rows are skipped after a cut: past all of its rows if it closes.
+fn until_after(verdict: Verdict, next: u32, size: u32) -> u32
+    requires { ⌜ (size ≤ mostRows) × (verdict .closed ≡ false → next + verdict .skip ≤ size) ⌝ }
+    ensures { λ r. ⌜ r ≡ untilAfter verdict next size ⌝ }
+{
+    if verdict.closed {
+        size + 1
+    } else {
+        next + verdict.skip
+    }
+}
+
+// The cut before a row that is not passed: skip has fallen to 0.
+pub fn score_cut(
+    own: &[u16; MOST_LABELS],
+    seen: &[u16; MOST_LABELS],
+    share: Share,
+    stand: Stand,
+    score: u32,
+) -> Cut
+    requires { ⌜ Scorable (now own) (now seen) (share .labels) (stand .counted) (share .size) ⌝ }
+    ensures { λ r. ⌜ r ≡ cutOf (now (own .entry)) (now (seen .entry)) (share .labels) (stand .counted) (share .size) (share .least) score ⌝ }
+{
+    let peaks = find_peaks(own, seen, share.labels);
+    let rest = share.size - stand.counted;
+    let verdict = judge(peaks, stand.counted, rest, share.least, score, 0);
+    let until = until_after(verdict, stand.counted + 1, share.size);
+    Cut {
+        peaks,
+        taken: verdict.taken,
+        until,
+    }
+}
+
+// The split of the cut between two rows.
+pub fn split_at(
+    peaks: Peaks,
+    share: Share,
+    stand: Stand,
+    column: usize,
+    values: &[f64],
+    base: usize,
+    row: usize,
+) -> Best
+    requires { ⌜ (peaks .before ≤ stand .counted) × (stand .counted ≤ share .size) × (peaks .after ≤ share .size - stand .counted) × (share .size ≤ mostRows) × (base + stand .last < length (now values)) × (base + row < length (now values)) ⌝ }
+    ensures { λ r. ⌜ r ≡ splitBy peaks (stand .counted) (share .size - stand .counted) column (getD (now (values .entry)) (base + stand .last) nan) (getD (now (values .entry)) (base + row) nan) ⌝ }
+{
+    let previous = values[base + stand.last];
+    let value = values[base + row];
+    let rest = share.size - stand.counted;
+    split_of(peaks, stand.counted, rest, column, previous, value)
+}
