@@ -6,36 +6,15 @@ ghost use lib.ListN.{length, take};
 ghost use Rattle.io.specs.Counts.{Counts};
 ghost use Rattle.listing.specs.Listing.{listingOf};
 ghost use Rattle.rule_finder.specs.Run.{runOf};
-ghost use Rattle.finder.specs.Input.{countOf, room};
+ghost use Rattle.finder.specs.Input.{countOf};
 use libc::STDIN_FILENO;
 use libc::STDOUT_FILENO;
 use listing::LONGEST;
-use sheet_bytes::MOST_CELLS;
-use sheet_bytes::MOST_READ;
-
-// The bytes of a header, of a row's mark and label, and of a value.
-const HEAD_SIZE: usize = 20;
-
-const ROW_FIXED: usize = 3;
-
-const VALUE_SIZE: usize = 8;
-
-const LARGEST_SHEET: usize = HEAD_SIZE + ROW_FIXED * MOST_READ + VALUE_SIZE * MOST_CELLS;
-
-// One byte more, so that a longer input is seen to be longer.
-const ROOM: usize = LARGEST_SHEET + 1;
 
 // How many bytes were read, to the end of the input or of the room.
 enum Input {
     Bytes { count: usize },
     Failed,
-}
-
-// A function of its own, so that a proof need not go through so many zeros.
-fn empty_room() -> [u8; ROOM]
-    ensures { λ r. ⌜ room ≡ length r ⌝ }
-{
-    [0; ROOM]
 }
 
 fn read_input(bytes: &mut [u8]) -> Input
@@ -72,7 +51,7 @@ fn print_answer(bytes: &[u8]) -> bool {
 }
 
 fn main() {
-    let mut bytes = empty_room();
+    let mut bytes = sheet_room::empty_room();
     let input = read_input(&mut bytes);
     match input {
         Input::Failed => {

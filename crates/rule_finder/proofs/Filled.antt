@@ -13,7 +13,7 @@ use Rattle.prepare.specs.Laws.{preparedSheet}
 use Rattle.sheet_bytes.specs.declared.Head.{Head}
 use Rattle.sheet_bytes.specs.declared.Read.{Read}
 use Rattle.sheet_bytes.specs.declared.Read.the-variants.{Sheet}
-use Rattle.sheet_bytes.specs.Reasons.{mostCells, mostRead}
+use Rattle.sheet_room.specs.Room.{mostCells, mostRead}
 use Rattle.sheet_bytes.specs.Read.{Small, cellsOf, valuesOf, codesOf, readOf, answerOf, valuesIn, codesIn}
 use Rattle.sheet_bytes.specs.Laws as read
 use Rattle.sheet_bytes.proofs.Stages as stages

@@ -19,9 +19,10 @@ use Rattle.sheet_bytes.specs.declared.Read.the-variants.{Refused, Sheet}
 use Rattle.sheet_bytes.specs.Bytes.{Mark, numberAt, marked, headMark, rowMark}
 use Rattle.sheet_bytes.specs.Reasons.{headWrong, sheetLarge, rowWrong, bytesLeft}
 use Rattle.sheet.specs.Reasons.{sizeOutside}
-use Rattle.sheet_bytes.specs.Read.{headSize, headOf, rowSize, startOf, headBad, sizeBad, tooLarge, rowBad, further, firstBad, fromTerms, fromEnd, fromRows, fromLarge, fromSize, readOf, Small}
+use Rattle.sheet_room.specs.Room.{headSize, rowSize, largestSheet}
+use Rattle.sheet_bytes.specs.Read.{headOf, startOf, headBad, sizeBad, tooLarge, rowBad, further, firstBad, fromTerms, fromEnd, fromRows, fromLarge, fromSize, readOf, Small}
 use Rattle.sheet_bytes.proofs.Stages.{chosen, accepted, small-accepted, small-enough}
-use Rattle.rule_finder.specs.Run.{largestSheet, answerTo, runOf}
+use Rattle.rule_finder.specs.Run.{answerTo, runOf}
 use Rattle.rule_finder.specs.Laws.{NoneLonger, OneMoreSuffices}
 
 -- ---- a choice and a walk go by what they come to

@@ -13,7 +13,8 @@ use Rattle.certificate.specs.Certificate.{Certified}
 use Rattle.sheet_bytes.specs.declared.Head.{Head}
 use Rattle.sheet_bytes.specs.declared.Read.the-variants.{Refused, Sheet}
 use Rattle.sheet_bytes.specs.Read.{readOf}
-use Rattle.rule_finder.specs.Run.{termsOf, wordsLent, sheetRead, runOf, largestSheet}
+use Rattle.sheet_room.specs.Room.{largestSheet}
+use Rattle.rule_finder.specs.Run.{termsOf, wordsLent, sheetRead, runOf}
 
 -- "Order: 20, 1, 21, 22, 23, 4, 5, 6.": these are the reader's, and a sheet that is read is never turned back
 abbrev pub NeverTurnedBack : Type 0

@@ -1,7 +1,7 @@
 -- What the finder answers to a sheet's bytes (document 01, "Program (added)"): the reader's refusal, or what the search of the prepared sheet
 -- answers. Definitions only.
 use mathlib.Core.Path.{_≡_}
-use Prim.Native.Nat.{ℕ, _+_, _*_}
+use Prim.Native.Nat.{ℕ, _*_}
 use mathlib.Core.List.{List}
 use lib.ListN.{length}
 use lib.Ieee.{Float}
@@ -18,8 +18,8 @@ use Rattle.prepare.specs.Laws.{preparedSheet}
 use Rattle.sheet_bytes.specs.declared.Head.{Head}
 use Rattle.sheet_bytes.specs.declared.Read.{Read}
 use Rattle.sheet_bytes.specs.declared.Read.the-variants as read
-use Rattle.sheet_bytes.specs.Reasons.{mostRead, mostCells}
-use Rattle.sheet_bytes.specs.Read.{headSize, Small, cellsOf, valuesOf, codesOf, readOf}
+use Rattle.sheet_room.specs.Room.{mostRead}
+use Rattle.sheet_bytes.specs.Read.{Small, cellsOf, valuesOf, codesOf, readOf}
 
 -- the header's numbers, as those of a sheet and of a search
 abbrev pub sizeOf : Head → Size
@@ -43,10 +43,6 @@ answerTo bytes (read.Sheet h) = searchOf (sheetRead bytes h) (termsOf h) wordsLe
 
 unfoldable pub runOf : List ℕ → Answer
 runOf bytes = answerTo bytes (readOf bytes)
-
--- the largest sheet's length: its header, the marks and labels of 2,048 rows, and 8,192 values
-abbrev pub largestSheet : ℕ
-largestSheet = headSize + 3 * mostRead + 8 * mostCells
 
 -- ---- a sheet that was read, with just its values: the preparer has no reason to turn it back
 pub record Prepares (h : Head) (values : List Float) : Type 0 where

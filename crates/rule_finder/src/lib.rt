@@ -11,9 +11,9 @@ use sheet::MOST_COLUMNS;
 use sheet::Size;
 use sheet::Terms;
 use sheet_bytes::Head;
-use sheet_bytes::MOST_CELLS;
-use sheet_bytes::MOST_READ;
 use sheet_bytes::Read;
+use sheet_room::MOST_CELLS;
+use sheet_room::MOST_READ;
 use tree::Answer;
 
 // Scratch for the largest sheet: eight words for each row.

@@ -15,7 +15,8 @@ use Rattle.basics.proofs.Choice.{nor-left, nor-right, and-left, and-right, orde
 use Rattle.basics.proofs.Lists.{getD-table}
 use Rattle.sheet_bytes.specs.declared.Head.{Head}
 use Rattle.sheet_bytes.specs.Bytes.{byteAt, numberAt, marked, headMark, rowMark}
-use Rattle.sheet_bytes.specs.Read.{headOf, headSize, rowSize, startOf, codeOf, cellsOf, cellAt, bitsOf, valueOf, valuesOf, codesOf, headBad, rowBad, further, Small}
+use Rattle.sheet_room.specs.Room.{headSize, rowSize}
+use Rattle.sheet_bytes.specs.Read.{headOf, startOf, codeOf, cellsOf, cellAt, bitsOf, valueOf, valuesOf, codesOf, headBad, rowBad, further, Small}
 use Rattle.sheet_bytes.specs.Laws.{Accepted}
 use Rattle.sheet_bytes.specs.Encode.{bytesOf, inTurn, headBytes, rowBytes, encodeOf, Exact}
 use Rattle.sheet_bytes.proofs.Numbers.{number-within}

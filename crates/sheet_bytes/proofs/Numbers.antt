@@ -10,7 +10,7 @@ use lib.Ieee.{Float, nan, inf, fin, binary64, ofBits, nanBits, isNan, lt, eq, le
 use lib.Ieee.Bits.{nanBits-is, nanBits-above}
 use Rattle.threshold.specs.Threshold.{within}
 use Rattle.sheet_bytes.specs.Bytes.{byteAt, numberAt}
-use Rattle.sheet_bytes.specs.Read.{rowSize}
+use Rattle.sheet_room.specs.Room.{rowSize}
 
 -- ---- two numbers side by side
 

@@ -9,7 +9,8 @@ use lib.Seq.{getD-append-add}
 use lib.Ieee.{Float, nan, binary64, toBits}
 use Rattle.sheet_bytes.specs.declared.Head.{Head}
 use Rattle.sheet_bytes.specs.Bytes.{byteAt}
-use Rattle.sheet_bytes.specs.Read.{headSize, rowSize, startOf}
+use Rattle.sheet_room.specs.Room.{headSize, rowSize}
+use Rattle.sheet_bytes.specs.Read.{startOf}
 use Rattle.sheet_bytes.specs.Encode.{bytesOf, inTurn, headBytes, rowBytes, encodeOf}
 use Rattle.sheet_bytes.proofs.Turns.{length-bytes, length-turn, getD-turn}
 

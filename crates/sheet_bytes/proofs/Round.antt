@@ -19,7 +19,8 @@ use Rattle.threshold.specs.Threshold.{within}
 use Rattle.threshold.specs.Laws.{Measured}
 use Rattle.sheet_bytes.specs.declared.Head.{Head}
 use Rattle.sheet_bytes.specs.Bytes.{byteAt, numberAt, marked, headMark, rowMark}
-use Rattle.sheet_bytes.specs.Read.{headOf, headSize, rowSize, startOf, codeOf, cellsOf, cellAt, bitsOf, valueOf, valuesOf, codesOf, headBad, rowBad, further, termsBad, valueBad, codeBad}
+use Rattle.sheet_room.specs.Room.{headSize, rowSize}
+use Rattle.sheet_bytes.specs.Read.{headOf, startOf, codeOf, cellsOf, cellAt, bitsOf, valueOf, valuesOf, codesOf, headBad, rowBad, further, termsBad, valueBad, codeBad}
 use Rattle.sheet_bytes.specs.Laws.{Accepted}
 use Rattle.sheet_bytes.specs.Encode.{bytesOf, headBytes, rowBytes, encodeOf, Within, RoundTrip}
 use Rattle.sheet_bytes.proofs.Numbers.{in-rows, in-columns}

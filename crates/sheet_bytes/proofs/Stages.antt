@@ -15,7 +15,8 @@ use Rattle.sheet_bytes.specs.declared.Head.{Head}
 use Rattle.sheet_bytes.specs.declared.Read.{Read}
 use Rattle.sheet_bytes.specs.declared.Read.the-variants.{Refused, Sheet}
 use Rattle.sheet.specs.Reasons.{sizeOutside, termAbove, valueOutside, labelHigh}
-use Rattle.sheet_bytes.specs.Reasons.{headWrong, sheetLarge, mostRead, mostCells, rowWrong, bytesLeft}
+use Rattle.sheet_room.specs.Room.{mostRead, mostCells}
+use Rattle.sheet_bytes.specs.Reasons.{headWrong, sheetLarge, rowWrong, bytesLeft}
 use Rattle.sheet_bytes.specs.Read.{headOf, cellsOf, headBad, outside, sizeBad, tooLarge, rowBad, further, termsBad, valueBad, codeBad, firstBad, fromCodes, fromValues, fromTerms, fromEnd, fromRows, fromLarge, fromSize, readOf, Small, Valued, valueOf}
 use Rattle.sheet_bytes.specs.Laws.{Accepted, Accepts}
 use Rattle.sheet_bytes.proofs.Find.{none-bad, ends}

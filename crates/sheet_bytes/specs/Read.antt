@@ -15,14 +15,12 @@ use Rattle.sheet_bytes.specs.declared.Read.{Read}
 use Rattle.sheet_bytes.specs.declared.Read.the-variants.{Refused, Sheet}
 use Rattle.sheet_bytes.specs.Bytes.{byteAt, numberAt, marked, headMark, rowMark}
 use Rattle.sheet.specs.Reasons.{sizeOutside, termAbove, valueOutside, labelHigh, scratchShort}
-use Rattle.sheet_bytes.specs.Reasons.{headWrong, sheetLarge, mostRead, mostCells, rowWrong, bytesLeft}
+use Rattle.sheet_room.specs.Room.{headSize, rowSize, mostRead, mostCells}
+use Rattle.sheet_bytes.specs.Reasons.{headWrong, sheetLarge, rowWrong, bytesLeft}
 
 -- ---- where each number stands
 
 -- "`HD`: rows u16, columns u8, labels u8, support u16, gap u32, error u32, bound u32."
-abbrev pub headSize : ℕ
-headSize = 20
-
 unfoldable pub headOf : List ℕ → Head
 headOf bytes =
     record {
@@ -36,9 +34,6 @@ headOf bytes =
     }
 
 -- "Then per row `RW`: label u8, then the columns' f64 bits."
-abbrev pub rowSize : ℕ → ℕ
-rowSize columns = 3 + 8 * columns
-
 -- where a row's record starts; that of the row past the last is the end
 unfoldable pub startOf : ℕ → ℕ → ℕ
 startOf columns row = headSize + row * rowSize columns

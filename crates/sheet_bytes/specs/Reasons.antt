@@ -1,4 +1,4 @@
--- The finder's own reasons for refusing a sheet, and its own limits (document 01), each once; the sheet's stand in crate sheet. Definitions only.
+-- The finder's own reasons for refusing a sheet (document 01), each once; the sheet's stand in crate sheet. Definitions only.
 use Prim.Native.Nat.{ℕ}
 
 -- "20 header short or mismarked (0)"
@@ -8,12 +8,6 @@ headWrong = 20
 -- "21 more than 2,048 rows or 8,192 cells (0)"
 abbrev pub sheetLarge : ℕ
 sheetLarge = 21
-
-abbrev pub mostRead : ℕ
-mostRead = 2048
-
-abbrev pub mostCells : ℕ
-mostCells = 8192
 
 -- "22 row short or mismarked (row)"
 abbrev pub rowWrong : ℕ

@@ -9,6 +9,11 @@ use sheet::SCRATCH_SHORT;
 use sheet::SIZE_OUTSIDE;
 use sheet::TERM_ABOVE;
 use sheet::VALUE_OUTSIDE;
+use sheet_room::HEAD_SIZE;
+use sheet_room::MOST_CELLS;
+use sheet_room::MOST_READ;
+use sheet_room::ROW_FIXED;
+use sheet_room::VALUE_SIZE;
 ghost use mathlib.Core.Path.{_≡_};
 ghost use Prim.Native.Nat.{_+_, _*_, _%_, _/_, _^_, _≤_, _<_};
 ghost use lib.ListN.{length};
@@ -35,7 +40,7 @@ pub enum Read {
     Sheet { head: Head },
 }
 
-// Where the header's numbers begin, after its two mark bytes, and where it ends.
+// Where the header's numbers begin, after its two mark bytes, and where a row's label code stands.
 const ROWS_AT: usize = 2;
 
 const COLUMNS_AT: usize = 4;
@@ -50,18 +55,7 @@ const ERROR_AT: usize = 12;
 
 const BOUND_AT: usize = 16;
 
-const HEAD_SIZE: usize = 20;
-
-const ROW_FIXED: usize = 3;
-
 const CODE_PLACE: usize = 2;
-
-const VALUE_SIZE: usize = 8;
-
-// The most rows and values that a sheet may have here, and so the least that is lent.
-pub const MOST_READ: usize = 2048;
-
-pub const MOST_CELLS: usize = 8192;
 
 const HEAD_WRONG: u32 = 20;
 

@@ -6,7 +6,8 @@ use mathlib.Core.Bool.{not}
 use lib.Dec.{ltb}
 use borrow.Author.Tests.{lt-ltb, le-ltb}
 use Rattle.sheet_bytes.specs.Bytes.{marked, headMark}
-use Rattle.sheet_bytes.specs.Read.{headSize, headBad}
+use Rattle.sheet_room.specs.Room.{headSize}
+use Rattle.sheet_bytes.specs.Read.{headBad}
 use Rattle.sheet_bytes.proofs.Numbers.{or-yes, or-no}
 use Rattle.sheet_bytes.proofs.head_bad.Statement.{statement}
 use Rattle.sheet_bytes.proofs.head_bad.Tie as tie

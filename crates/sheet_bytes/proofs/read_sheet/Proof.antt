@@ -8,7 +8,7 @@ use lib.Dec.{ltb}
 use borrow.Author.Tests.{lt-ltb, le-ltb}
 use Rattle.sheet_bytes.specs.declared.Read.the-variants.{Refused}
 use Rattle.sheet.specs.Reasons.{scratchShort}
-use Rattle.sheet_bytes.specs.Reasons.{mostRead, mostCells}
+use Rattle.sheet_room.specs.Room.{mostRead, mostCells}
 use Rattle.sheet_bytes.specs.Read.{cellsOf, readOf, valueOf, codeOf, valuesOf, codesOf, answerOf, valuesIn, codesIn}
 use Rattle.sheet_bytes.proofs.Numbers.{or-yes, or-no}
 use Rattle.sheet_bytes.proofs.Stores.{in-front}

@@ -3,7 +3,7 @@ use mathlib.Core.Path.{sym}
 use native.Mathlib.Omega.{arith}
 use lib.Dec.{ltb}
 use borrow.Author.Tests.{lt-ltb, le-ltb}
-use Rattle.sheet_bytes.specs.Reasons.{mostRead, mostCells}
+use Rattle.sheet_room.specs.Room.{mostRead, mostCells}
 use Rattle.sheet_bytes.specs.Read.{cellsOf, tooLarge}
 use Rattle.sheet_bytes.proofs.Numbers.{or-yes, or-no, product}
 use Rattle.sheet_bytes.proofs.too_large.Statement.{statement}
