@@ -1,5 +1,4 @@
 -- Laws of a column's turns, for other crates to cite.
-pub mod Queueing
 pub mod Places
 pub mod Steps
 pub mod Turns

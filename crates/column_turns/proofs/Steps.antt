@@ -26,14 +26,16 @@ use Rattle.interval_queue.specs.Laws.{Sane}
 use Rattle.column_search.specs.Search.{State, limit, zerosOf, middle, part, upperPart, lowerPart, queued, tryCut, triedOf}
 use Rattle.column_search.specs.Laws.{Agree}
 use Rattle.column_search.proofs.Same.{same-parts}
-use Rattle.column_turns.specs.declared.Held.{Held}
-use Rattle.column_turns.specs.declared.Held.the-variants.{Rule}
-use Rattle.column_turns.specs.declared.Standing.{Standing}
+use Rattle.interval_steps.specs.declared.Held.{Held}
+use Rattle.interval_steps.specs.declared.Held.the-variants.{Rule}
+use Rattle.interval_steps.specs.declared.Standing.{Standing}
 use Rattle.column_turns.specs.declared.Course.{Course}
 use Rattle.column_turns.specs.declared.Attempt.{Attempt}
 use Rattle.cut_try.specs.Lent.{tableOf, ringOf, Enough, Became}
 use Rattle.cut_try.specs.Try.{columnOf, treeAt, triedTree}
-use Rattle.column_turns.specs.Course.{heldAfter, standingAfter, Attempted, Matches, improvedBy, endsColumn, partsQueued}
+use Rattle.interval_steps.specs.Steps.{improvedBy, endsColumn}
+use Rattle.column_queue.specs.Parts.{partsQueued}
+use Rattle.column_turns.specs.Course.{heldAfter, standingAfter, Attempted, Matches}
 use Rattle.cut_try.proofs.Lent.{table-length}
 
 -- ---- the table

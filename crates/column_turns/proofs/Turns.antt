@@ -40,13 +40,15 @@ use Rattle.column_search.proofs.Count.{loops}
 use Rattle.column_search.proofs.Kept.{cut-map}
 use Rattle.column_search.proofs.Same.{recalls, same-hope, same-shrunk}
 use Rattle.column_search.proofs.Steps.{shrunk-in}
-use Rattle.column_turns.specs.declared.Standing.{Standing}
+use Rattle.interval_steps.specs.declared.Standing.{Standing}
 use Rattle.column_turns.specs.declared.Course.{Course}
 use Rattle.column_turns.specs.declared.Attempt.{Attempt}
 use Rattle.cut_try.specs.Lent.{tableOf, ringOf}
 use Rattle.cut_try.specs.Ready.{Whole, Trying}
 use Rattle.cut_try.specs.Try.{columnOf}
-use Rattle.column_turns.specs.Course.{standingAfter, feasibleAt, firstAt, lastAt, Matches, Stands, mostTries, Begun, prunedOf, Attempted, Parting, Attempting, Numbered}
+use Rattle.interval_steps.specs.Steps.{mostTries, prunedOf}
+use Rattle.column_queue.specs.Parts.{Parting, Numbered}
+use Rattle.column_turns.specs.Course.{standingAfter, feasibleAt, firstAt, lastAt, Matches, Stands, Begun, Attempted, Attempting}
 use Rattle.cut_try.proofs.Lent.{became-enough}
 use Rattle.column_turns.proofs.Places.{places-count, places-ascend, places-low}
 

@@ -1,59 +1,32 @@
 // The search of one column, turn by turn (depth2.rs): the first interval that waits is pruned, its middle cut tried, and what is left of it waits in parts.
-use cut_try::MARKS;
 use cut_try::RING;
 use interval_pruner::Bound;
 use interval_pruner::Shrunk;
 use interval_pruner::Tried;
 use interval_pruner::Zeros;
-use interval_queue::Popped;
 use interval_queue::Queue;
+use interval_steps::Standing;
 use sheet::Size;
 use sheet::Terms;
 use tree::Tree;
 ghost use mathlib.Core.Path.{_≡_};
-ghost use Prim.Native.Nat.{ℕ, _+_, _-_, _*_, _≤_, _<_, min};
-ghost use mathlib.Core.List.{List, [], _++_};
-ghost use lib.Dec.{leb};
+ghost use Prim.Native.Nat.{ℕ, _≤_, _<_};
+ghost use mathlib.Core.List.{List};
 ghost use lib.Ieee.{Float};
-ghost use Rattle.basics.specs.Choice.{pick};
 ghost use Rattle.sheet.specs.Check.{sheetOf};
 ghost use Rattle.basics.specs.Lists.{total};
-ghost use Rattle.sheet.specs.Limits.{mostRows, mostColumns};
+ghost use Rattle.sheet.specs.Limits.{mostRows};
 ghost use Rattle.sheet.specs.Sheet.{placesOf};
 ghost use Rattle.interval_pruner.specs.Pruner.{zerosAfter, recordedAfter};
-ghost use Rattle.cuts.specs.Lookups.{Ascending};
-ghost use Rattle.interval_pruner.specs.Column.{columnOf};
-ghost use Rattle.interval_queue.specs.Ring.{contents, popped, pushed, pushedWords};
-ghost use Rattle.interval_queue.specs.Laws.{Sane};
-ghost use Rattle.column_search.specs.Search.{State, part, upperPart, lowerPart, tryCut, afterShrink, columnRun};
+ghost use Rattle.interval_queue.specs.Ring.{contents};
+ghost use Rattle.interval_steps.specs.declared.Standing.{Standing};
+ghost use Rattle.column_search.specs.Search.{State, tryCut, afterShrink, columnRun};
 ghost use Rattle.column_search.specs.Laws.{IfTo};
 ghost use Rattle.column_search.specs.Loop.{weight};
 ghost use Rattle.cut_try.specs.Try.{columnOf as columnIn};
 ghost use Rattle.cut_try.specs.Lent.{tableOf, ringOf, Enough, Became};
-ghost use Rattle.column_turns.specs.declared.Standing.{Standing};
-ghost use Rattle.column_turns.specs.Course.{Attempted, Matches, Stands, Turning, Attempting, Parting, Pushing, Queued, prunedOf, reachOf, partsQueued, improvedBy, endsColumn, mostTries, standingAfter, Opened, Entering, Searching, columnAfter};
+ghost use Rattle.column_turns.specs.Course.{Attempted, Matches, Stands, Turning, Attempting, standingAfter, Opened, Entering, Searching, columnAfter};
 ghost use Rattle.cut_try.specs.Ready.{Trying, PlacedIn};
-
-// The first interval that waits.
-fn next_interval(rows: usize, queue: Queue, scratch: &[u32]) -> Popped
-    requires { ⌜ Enough rows (now scratch) ⌝ }
-    ensures { λ r. ⌜ r ≡ popped (ringOf rows (now (scratch .entry))) queue ⌝ }
-{
-    let from = RING * rows;
-    let to = MARKS * rows;
-    interval_queue::pop(&scratch[from..to], queue)
-}
-
-// One interval more.
-fn add_interval(rows: usize, queue: Queue, bound: Bound, scratch: &mut [u32]) -> Queue
-    requires { ⌜ Enough rows (now scratch) ⌝ }
-    ensures { λ r. ⌜ r ≡ pushed (ringOf rows (now (scratch .entry))) queue ⌝ }
-    ensures lent { λ _. ⌜ Became rows (now (scratch .entry)) (now (scratch .exit)) (tableOf rows (now (scratch .entry))) (pushedWords (ringOf rows (now (scratch .entry))) queue bound) ⌝ }
-{
-    let from = RING * rows;
-    let to = MARKS * rows;
-    interval_queue::push(&mut scratch[from..to], queue, bound)
-}
 
 // The errors of a tried cut are kept, and the zero marks moved.
 fn keep_errors(
@@ -80,25 +53,6 @@ fn wide(x: u16) -> usize
 
 // ---- one interval
 
-fn smaller(a: u32, b: u32) -> u32
-    ensures { λ r. ⌜ r ≡ min a b ⌝ }
-{
-    if a < b { a } else { b }
-}
-
-// a - b, not below 0
-fn minus(a: u32, b: u32) -> u32
-    ensures { λ r. ⌜ r ≡ a - b ⌝ }
-{
-    if b < a { a - b } else { 0 }
-}
-
-fn is_small(support: u32) -> bool
-    ensures { λ r. ⌜ r ≡ leb support 1 ⌝ }
-{
-    support <= 1
-}
-
 // The places of a column's cuts.
 fn places_of<'a>(size: Size, cuts: &'a [u16], counts: &[u16], column: usize) -> &'a [u16]
     requires { ⌜ PlacedIn size (now cuts) (now counts) column ⌝ }
@@ -109,164 +63,11 @@ fn places_of<'a>(size: Size, cuts: &'a [u16], counts: &[u16], column: usize) -> 
     &cuts[base..end]
 }
 
-// Steps 1 and 2: what is left of an interval.
-fn prune(
-    rows: usize,
-    terms: Terms,
-    places: &[u16],
-    zeros: Zeros,
-    bound: Bound,
-    error: u32,
-    scratch: &[u32],
-) -> Shrunk
-    requires { ⌜ Enough rows (now scratch) ⌝ }
-    ensures { λ r. ⌜ (Ascending (now (places .entry)) → r ≡ prunedOf (columnOf (now (places .entry)) (tableOf rows (now (scratch .entry))) (terms .gap) (leb (terms .support) 1)) zeros (min error (terms .bound)) bound) ⌝ }
-{
-    let gap = terms.gap;
-    let small = is_small(terms.support);
-    let best = smaller(error, terms.bound);
-    let end = RING * rows;
-    if subinterval_pruning::subinterval_pruning(&scratch[..end], bound, gap, best, small) {
-        return Shrunk::Dropped;
-    }
-    interval_shrinking::interval_shrinking(places, &scratch[..end], zeros, bound, gap, best, small)
-}
-
-// A part is queued if it is not empty.
-fn queue_part(rows: usize, queue: Queue, bound: Bound, scratch: &mut [u32]) -> Queue
-    requires { ⌜ Pushing rows (now scratch) queue bound ⌝ }
-    ensures { λ r. ⌜ Queued rows (now (scratch .entry)) (now (scratch .exit)) queue r (part bound) ⌝ }
-    ensures lent { λ _. ⌜ Became rows (now (scratch .entry)) (now (scratch .exit)) (tableOf rows (now (scratch .entry))) (ringOf rows (now (scratch .exit))) ⌝ }
-{
-    if bound.first <= bound.last {
-        return add_interval(rows, queue, bound, scratch);
-    }
-    queue
-}
-
-// The part of an interval above a tried cut.
-fn upper_part(bound: Bound, cut: usize, first: usize) -> Bound
-    ensures { λ r. ⌜ r ≡ upperPart bound cut first ⌝ }
-{
-    let right = bound.right;
-    Bound {
-        first,
-        last: bound.last,
-        left: Tried::Cut(cut),
-        right,
-    }
-}
-
-// The part below it.
-fn lower_part(bound: Bound, cut: usize, last: usize) -> Bound
-    ensures { λ r. ⌜ r ≡ lowerPart bound cut last ⌝ }
-{
-    let left = bound.left;
-    Bound {
-        first: bound.first,
-        last,
-        left,
-        right: Tried::Cut(cut),
-    }
-}
-
-// What step 5 takes from the terms, and how far a try's error is above the best.
-struct Reach {
-    gap: u32,
-    small: bool,
-    excess: u32,
-}
-
-fn reach_of(terms: Terms, error: u32, current: u32) -> Reach
-    ensures { λ r. ⌜ r ≡ reachOf terms error current ⌝ }
-{
-    let small = is_small(terms.support);
-    let excess = minus(error, smaller(current, terms.bound));
-    Reach {
-        gap: terms.gap,
-        small,
-        excess,
-    }
-}
-
-// Step 5: the upper part, then the lower.
-fn queue_parts(
-    rows: usize,
-    places: &[u16],
-    reach: Reach,
-    zeros: Zeros,
-    bound: Bound,
-    cut: usize,
-    queue: Queue,
-    scratch: &mut [u32],
-) -> Queue
-    requires { ⌜ Parting rows (now places) zeros bound cut queue (now scratch) ⌝ }
-    ensures { λ r. ⌜ Queued rows (now (scratch .entry)) (now (scratch .exit)) queue r (partsQueued (now (places .entry)) (reach .gap) (reach .small) zeros (reach .excess) cut bound) ⌝ }
-    ensures lent { λ _. ⌜ Became rows (now (scratch .entry)) (now (scratch .exit)) (tableOf rows (now (scratch .entry))) (ringOf rows (now (scratch .exit))) ⌝ }
-{
-    if bound.first == bound.last {
-        return queue;
-    }
-    let parts = neighbourhood_pruning::neighbourhood_pruning(
-        places,
-        zeros,
-        reach.gap,
-        reach.excess,
-        bound.first,
-        cut,
-        reach.small,
-    );
-    let upper = upper_part(bound, cut, parts.upper);
-    let lower = lower_part(bound, cut, parts.lower);
-    let more = queue_part(rows, queue, upper, scratch);
-    queue_part(rows, more, lower, scratch)
-}
-
-// The rule held so far, if one was found.
-pub enum Held {
-    Empty,
-    Rule(Tree),
-}
-
-// The state between two columns.
-pub struct Standing {
-    pub error: u32,
-    pub tried: u32,
-    pub held: Held,
-}
-
 // The state between two intervals of a column.
 pub struct Course {
     pub standing: Standing,
     pub zeros: Zeros,
     pub queue: Queue,
-}
-
-// Steps 3 and 4: one more try; a strictly lower error replaces the tree.
-fn improved(standing: Standing, tree: Tree) -> Standing
-    requires { ⌜ standing .tried ≤ mostColumns * mostTries + mostTries ⌝ }
-    ensures { λ r. ⌜ r ≡ improvedBy standing tree ⌝ }
-{
-    let tried = standing.tried + 1;
-    if tree.error < standing.error {
-        return Standing {
-            error: tree.error,
-            tried,
-            held: Held::Rule(tree),
-        };
-    }
-    let held = standing.held;
-    Standing {
-        error: standing.error,
-        tried,
-        held,
-    }
-}
-
-fn ends_column(error: u32, current: u32) -> bool
-    ensures { λ r. ⌜ r ≡ endsColumn error current ⌝ }
-{
-    if error < current { error == 0 } else { false }
 }
 
 // A cut of a column, by number.
@@ -321,32 +122,6 @@ fn try_and_keep(
     Attempt { tree, zeros: marks }
 }
 
-// What waits after a try: nothing if the column is over, else the parts of its interval too.
-fn next_queue(
-    rows: usize,
-    places: &[u16],
-    reach: Reach,
-    zeros: Zeros,
-    over: bool,
-    bound: Bound,
-    cut: usize,
-    queue: Queue,
-    scratch: &mut [u32],
-) -> Queue
-    requires { ⌜ Parting rows (now places) zeros bound cut queue (now scratch) ⌝ }
-    ensures { λ r. ⌜ contents (ringOf rows (now (scratch .exit))) r ≡ pick over [] (contents (ringOf rows (now (scratch .entry))) queue ++ partsQueued (now (places .entry)) (reach .gap) (reach .small) zeros (reach .excess) cut bound) ⌝ }
-    ensures sane { λ r. ⌜ Sane (ringOf rows (now (scratch .exit))) r ⌝ }
-    ensures lent { λ _. ⌜ Became rows (now (scratch .entry)) (now (scratch .exit)) (tableOf rows (now (scratch .entry))) (ringOf rows (now (scratch .exit))) ⌝ }
-{
-    if over {
-        return Queue {
-            head: queue.head,
-            waiting: 0,
-        };
-    }
-    queue_parts(rows, places, reach, zeros, bound, cut, queue, scratch)
-}
-
 // Steps 3 to 5 of an interval.
 fn try_interval(
     size: Size,
@@ -375,11 +150,21 @@ fn try_interval(
     let tried = try_and_keep(size, support, values, codes, order, cuts, at, was, scratch);
     let tree = tried.tree;
     let zeros = tried.zeros;
-    let next = improved(standing, tree);
-    let over = ends_column(tree.error, standing.error);
-    let reach = reach_of(terms, tree.error, next.error);
+    let next = interval_steps::improved(standing, tree);
+    let over = interval_steps::ends_column(tree.error, standing.error);
+    let reach = interval_steps::reach_of(terms, tree.error, next.error);
     let places = places_of(size, cuts, counts, column);
-    let waiting = next_queue(rows, places, reach, zeros, over, bound, cut, queue, scratch);
+    let waiting = column_queue::next_queue(
+        rows,
+        places,
+        reach,
+        zeros,
+        over,
+        bound,
+        cut,
+        queue,
+        scratch,
+    );
     Course {
         standing: next,
         zeros,
@@ -443,10 +228,10 @@ fn turn(
 {
     let zeros = course.zeros;
     let error = course.standing.error;
-    let popped = next_interval(size.rows, course.queue, scratch);
+    let popped = column_queue::next_interval(size.rows, course.queue, scratch);
     let bound = popped.bound;
     let places = places_of(size, cuts, counts, column);
-    let pruned = prune(size.rows, terms, places, zeros, bound, error, scratch);
+    let pruned = interval_steps::prune(size.rows, terms, places, zeros, bound, error, scratch);
     let others = popped.queue;
     course.queue = others;
     try_shrunk(
@@ -488,7 +273,7 @@ fn begin_column(
         head: 0,
         waiting: 0,
     };
-    let queue = queue_part(rows, none, all, scratch);
+    let queue = column_queue::queue_part(rows, none, all, scratch);
     let zeros = Zeros {
         left: Tried::Nothing,
         right: Tried::Nothing,

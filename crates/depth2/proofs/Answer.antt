@@ -11,7 +11,7 @@ use Rattle.sheet.specs.declared.Checked.the-variants.{Accepted, Refused}
 use Rattle.sheet.specs.Sheet.{Sheet}
 use Rattle.sheet.specs.Check.{checkOf}
 use Rattle.tree.specs.declared.Answer.the-variants.{TurnedBack}
-use Rattle.column_turns.specs.declared.Standing.{Standing}
+use Rattle.interval_steps.specs.declared.Standing.{Standing}
 use Rattle.depth2.specs.Search.{Progress, searched, answerOf, answerAfter, searchOf}
 use Rattle.depth2.specs.Columns.{heldOf, standingOf, answerHeld}
 

@@ -13,11 +13,12 @@ use Rattle.column_search.specs.Search.{State, columnRun, triedOf}
 use Rattle.column_search.specs.Laws.{Lowered}
 use Rattle.column_search.proofs.Count.{tries}
 use Rattle.column_search.proofs.Error.{lowers}
-use Rattle.column_turns.specs.declared.Standing.{Standing}
+use Rattle.interval_steps.specs.declared.Standing.{Standing}
 use Rattle.cut_try.specs.Ready.{Whole}
 use Rattle.cut_try.specs.Try.{columnOf}
 use Rattle.depth2.specs.Search.{Progress, bestAfter, joined, afterColumn, searchColumns, searched}
-use Rattle.column_turns.specs.Course.{heldAfter, standingAfter, feasibleAt, firstAt, lastAt, mostTries, columnAfter}
+use Rattle.interval_steps.specs.Steps.{mostTries}
+use Rattle.column_turns.specs.Course.{heldAfter, standingAfter, feasibleAt, firstAt, lastAt, columnAfter}
 use Rattle.depth2.specs.Columns.{heldOf, standingOf, startOf, Between}
 use Rattle.column_turns.proofs.Turns.{feasible-cuts, end-listed}
 

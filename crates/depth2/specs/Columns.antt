@@ -6,10 +6,10 @@ use Rattle.sheet.specs.declared.Terms.{Terms}
 use Rattle.sheet.specs.Sheet.{Sheet}
 use Rattle.tree.specs.declared.Answer.{Answer}
 use Rattle.tree.specs.declared.Answer.the-variants.{Kept, Found}
-use Rattle.column_turns.specs.declared.Held.{Held}
-use Rattle.column_turns.specs.declared.Held.the-variants.{Empty, Rule}
-use Rattle.column_turns.specs.declared.Standing.{Standing}
-use Rattle.column_turns.specs.Course.{mostTries}
+use Rattle.interval_steps.specs.declared.Held.{Held}
+use Rattle.interval_steps.specs.declared.Held.the-variants.{Empty, Rule}
+use Rattle.interval_steps.specs.declared.Standing.{Standing}
+use Rattle.interval_steps.specs.Steps.{mostTries}
 use Rattle.cut_try.specs.Try.{treeAt}
 use Rattle.depth2.specs.Search.{Progress, searchColumns, searched}
 

@@ -1,6 +1,6 @@
 // The search of a whole sheet (depth2.rs): every column's cuts as the first question, the two-side scan below it.
-use column_turns::Held;
-use column_turns::Standing;
+use interval_steps::Held;
+use interval_steps::Standing;
 use sheet::Checked;
 use sheet::Size;
 use sheet::Terms;

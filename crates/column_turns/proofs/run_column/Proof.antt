@@ -11,7 +11,7 @@ use Rattle.cut_try.specs.Lent.{tableOf, ringOf, Became}
 use Rattle.column_turns.specs.Course.{Stands, standingAfter, Opened, firstAt, lastAt, Begun}
 use Rattle.sheet.specs.Sheet.{Sheet}
 use Rattle.column_search.specs.Search.{columnRun}
-use Rattle.column_turns.specs.declared.Standing.{Standing}
+use Rattle.interval_steps.specs.declared.Standing.{Standing}
 use Rattle.cut_try.specs.Try.{columnOf}
 use Rattle.cut_try.proofs.Lent.{became-then}
 use Rattle.column_turns.proofs.Turns.{end-listed}

@@ -8,10 +8,12 @@ use Rattle.basics.specs.Choice.{pick}
 use Rattle.sheet.specs.Check.{sheetOf}
 use Rattle.interval_queue.specs.Ring.{contents}
 use Rattle.column_search.specs.Search.{middle, tryCut}
-use Rattle.column_turns.specs.declared.Standing.{Standing}
+use Rattle.interval_steps.specs.declared.Standing.{Standing}
 use Rattle.cut_try.specs.Lent.{ringOf}
 use Rattle.cut_try.specs.Try.{columnOf}
-use Rattle.column_turns.specs.Course.{Matches, Parting, reachOf, partsQueued}
+use Rattle.interval_steps.specs.Steps.{reachOf}
+use Rattle.column_queue.specs.Parts.{Parting, partsQueued}
+use Rattle.column_turns.specs.Course.{Matches}
 use Rattle.column_turns.proofs.Places.{placed-in}
 use Rattle.column_turns.proofs.Steps.{matches-next}
 use Rattle.column_turns.proofs.Turns.{to-try, to-part, middle-row}

@@ -13,10 +13,11 @@ use Rattle.interval_pruner.specs.Column as column
 use Rattle.interval_queue.specs.Ring.{contents}
 use Rattle.column_search.specs.Search.{dropped}
 use Rattle.column_search.specs.Loop.{weight}
-use Rattle.column_turns.specs.declared.Standing.{Standing}
+use Rattle.interval_steps.specs.declared.Standing.{Standing}
 use Rattle.column_turns.specs.declared.Course.{Course}
 use Rattle.cut_try.specs.Lent.{tableOf, ringOf}
-use Rattle.column_turns.specs.Course.{Stands, prunedOf}
+use Rattle.interval_steps.specs.Steps.{prunedOf}
+use Rattle.column_turns.specs.Course.{Stands}
 use Rattle.column_turns.proofs.Turns.{pruned-is, stands-next, without-first, attempting-left}
 use Rattle.column_turns.proofs.turn.Statement.{statement}
 use Rattle.column_turns.proofs.turn.Tie as tie

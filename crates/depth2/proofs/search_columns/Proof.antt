@@ -7,7 +7,7 @@ use Rattle.sheet.specs.Sheet.{Sheet}
 use Rattle.sheet.specs.Check.{sheetOf}
 use Rattle.cut_try.specs.Lent.{tableOf, ringOf, Became}
 use Rattle.depth2.specs.Columns.{Between}
-use Rattle.column_turns.specs.declared.Standing.{Standing}
+use Rattle.interval_steps.specs.declared.Standing.{Standing}
 use Rattle.cut_try.proofs.Lent.{became-enough, became-then}
 use Rattle.depth2.proofs.Columns.{between-start, between-next, between-stop, between-end}
 use Rattle.depth2.proofs.search_columns.Statement.{statement}

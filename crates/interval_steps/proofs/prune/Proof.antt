@@ -1,17 +1,17 @@
--- `column_turns::prune` meets its contract. The table is the part of the lent words before the ring. Assumes nothing.
+-- `interval_steps::prune` meets its contract. The table is the part of the lent words before the ring. Assumes nothing.
 use mathlib.Core.Path.{sym, ap, _∙_}
 use native.Mathlib.Omega.{arith}
 use borrow.Author.Needs.{needs}
 use lib.Seq.{length-take-le}
 use Rattle.cut_try.specs.Lent.{tableOf}
-use Rattle.column_turns.specs.Course.{prunedOf}
+use Rattle.interval_steps.specs.Steps.{prunedOf}
 use mathlib.Core.Bool.{Bool}
 use Rattle.basics.specs.Choice.{pick}
 use Rattle.interval_pruner.specs.declared.Shrunk.the-variants.{Dropped}
 use Rattle.interval_pruner.specs.Column.{Column, columnOf}
 use Rattle.interval_pruner.specs.Pruner.{shrunkOf}
-use Rattle.column_turns.proofs.prune.Statement.{statement}
-use Rattle.column_turns.proofs.prune.Tie as tie
+use Rattle.interval_steps.proofs.prune.Statement.{statement}
+use Rattle.interval_steps.proofs.prune.Tie as tie
 
 is-small-requires : tie.Need-is-small-requires
 is-small-requires c κs = search needs

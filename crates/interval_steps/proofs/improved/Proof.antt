@@ -1,4 +1,4 @@
--- `column_turns::improved` meets its contract. By the test of step 4. Assumes nothing.
+-- `interval_steps::improved` meets its contract. By the test of step 4. Assumes nothing.
 use mathlib.Core.Path.{_≡_, sym}
 use Prim.Native.Nat.{_+_, min}
 use native.Mathlib.Omega.{arith}
@@ -6,11 +6,11 @@ use borrow.Author.Needs.{needs}
 use lib.Dec.{lt→ltb, ltb}
 use Rattle.basics.specs.Choice.{pick}
 use Rattle.basics.proofs.Choice.{pick-true, pick-false, nltb}
-use Rattle.column_turns.specs.declared.Held.{Held}
-use Rattle.column_turns.specs.declared.Held.the-variants.{Rule}
-use Rattle.column_turns.specs.Course.{improvedBy}
-use Rattle.column_turns.proofs.improved.Statement.{statement}
-use Rattle.column_turns.proofs.improved.Tie as tie
+use Rattle.interval_steps.specs.declared.Held.{Held}
+use Rattle.interval_steps.specs.declared.Held.the-variants.{Rule}
+use Rattle.interval_steps.specs.Steps.{improvedBy}
+use Rattle.interval_steps.proofs.improved.Statement.{statement}
+use Rattle.interval_steps.proofs.improved.Tie as tie
 
 add-tried : tie.Need-add-tried
 add-tried c = search needs

@@ -1,9 +1,9 @@
--- `column_turns::reach_of` meets its contract, field by field. Assumes nothing.
+-- `interval_steps::reach_of` meets its contract, field by field. Assumes nothing.
 use mathlib.Core.Path.{ap, _∙_}
 use Prim.Native.Nat.{ℕ, _-_}
 use borrow.Author.Needs.{needs}
-use Rattle.column_turns.proofs.reach_of.Statement.{statement}
-use Rattle.column_turns.proofs.reach_of.Tie as tie
+use Rattle.interval_steps.proofs.reach_of.Statement.{statement}
+use Rattle.interval_steps.proofs.reach_of.Tie as tie
 
 is-small-requires : tie.Need-is-small-requires
 is-small-requires c κs = search needs

@@ -1,10 +1,10 @@
--- `column_turns::ends_column` meets its contract. By the two tests of step 4. Assumes nothing.
+-- `interval_steps::ends_column` meets its contract. By the two tests of step 4. Assumes nothing.
 use mathlib.Core.Path.{_≡_, refl, sym}
 use lib.Dec.{lt→ltb, ltb, T}
 use mathlib.Core.Bool.{Bool, true, false, _&&_, not}
 use Rattle.basics.proofs.Choice.{nltb}
-use Rattle.column_turns.proofs.ends_column.Statement.{statement}
-use Rattle.column_turns.proofs.ends_column.Tie as tie
+use Rattle.interval_steps.proofs.ends_column.Statement.{statement}
+use Rattle.interval_steps.proofs.ends_column.Tie as tie
 
 returns : tie.Need-returns
 returns c = sym (yes (ltb (c .before .args .error) (c .before .args .current)) _ (lt→ltb _ _ (c .if1 .taken)))
