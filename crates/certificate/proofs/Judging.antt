@@ -23,7 +23,7 @@ use Rattle.sheet.specs.Reasons.{sizeOutside, lengthWrong, scratchShort, termAbo
 use Rattle.tree.specs.declared.Side.{Side}
 use Rattle.tree.specs.declared.Side.the-variants.{Leaf, Split}
 use Rattle.tree.specs.declared.Tree.{Tree}
-use Rattle.leaves_score.specs.Scan.{other, sizeOf}
+use Rattle.two_sides.specs.Column.{other, sizeOf}
 use Rattle.leaves_score.specs.Root.{markOf}
 use Rattle.side_laws.specs.Told.{Told, wrongOf}
 use Rattle.side_laws.specs.Opt.{mistakes, Proper}

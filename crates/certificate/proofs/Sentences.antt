@@ -17,7 +17,7 @@ use Rattle.sheet.proofs.Accepted.{accepted-sound}
 use Rattle.tree.specs.declared.Tree.{Tree}
 use Rattle.tree.specs.declared.Answer.{Answer}
 use Rattle.tree.specs.Answer.{finalError, ruleOf}
-use Rattle.leaves_score.specs.Scan.{other}
+use Rattle.two_sides.specs.Column.{other}
 use Rattle.leaves_score.specs.Root.{cutThreshold, markOf, sidesAt}
 use Rattle.side_laws.specs.Told.{Told}
 use Rattle.side_laws.specs.Root.{rootMistakes}

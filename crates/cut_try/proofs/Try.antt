@@ -23,7 +23,8 @@ use Rattle.side_laws.specs.Opt.{answer}
 use Rattle.side_laws.specs.Root.{rootMistakes}
 use Rattle.side_laws.proofs.Cuts.{at-cuts}
 use Rattle.side_laws.proofs.Root.{place-of, cut-mistakes}
-use Rattle.leaves_score.specs.Lists.{scanOf, goLeft, Scannable}
+use Rattle.two_sides.specs.Lists.{goLeft}
+use Rattle.leaves_score.specs.Lists.{scanOf, Scannable}
 use Rattle.leaves_score.proofs.Accepted.{accepted, same-sides}
 use Rattle.cut_try.specs.Ready.{Whole, MarkingCut, MarkedTo, placeBefore, Cutting, Trying}
 use Rattle.cut_try.proofs.Lent.{marks-length}

@@ -6,9 +6,10 @@ use mathlib.Core.List.{List}
 use Rattle.basics.specs.Choice.{pick}
 use Rattle.sheet.specs.Sheet.{Sheet, valueOf, labelOf, rowAt, orderOf}
 use Rattle.sheet.specs.Sound.{Sound}
-use Rattle.leaves_score.specs.declared.Two.{Two}
+use Rattle.two_sides.specs.declared.Two.{Two}
 use Rattle.side_scan.specs.OneSide.{cleared, sideOf}
-use Rattle.leaves_score.specs.Scan.{sizeOf, labelled, ownOf, startOf, stepBoth, ended, scanRows, scanColumn, perfect, scanColumns, startBoth, scanned, sidesOf}
+use Rattle.two_sides.specs.Column.{sizeOf, labelled, ownOf, startOf, stepBoth, ended, scanRows, scanColumn}
+use Rattle.leaves_score.specs.Scan.{perfect, scanColumns, startBoth, scanned, sidesOf}
 use Rattle.leaves_score.specs.Lists.{scanOf, Lent, Scannable}
 
 pub accepted : (s : Sheet) (marks : List ℕ) → Sound s → Lent s marks → Scannable (scanOf s) marks

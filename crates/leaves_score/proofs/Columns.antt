@@ -1,31 +1,29 @@
--- The scan of the columns, one by one: what crosses from a column to the next, what the loop keeps, that each column finds what it goes by, and what the loop
--- has when it ends. Assumes nothing.
+-- The scan of the columns, one by one: what the loop keeps, that each column finds what it goes by, and what the loop has when it ends. Assumes nothing.
 use Prim.Native.Nat.{ℕ, zero, suc, _+_, _-_, _*_, _≤_, _<_}
 use native.Mathlib.Omega.{arith}
 use native.Mathlib.Numerals.{add-one}
 use mathlib.Core.Path.{_≡_, refl, sym, ap, ap₂, subst, _∙_}
 use mathlib.Core.Bool.{Bool, true, false, _&&_}
-use mathlib.Core.List.{List, [], _∷_}
+use mathlib.Core.List.{List}
 use lib.ListN.{length, getD}
 use lib.Dec.{eqb}
-use lib.Ieee.{Float}
 use Rattle.basics.specs.Choice.{pick}
-use Rattle.basics.specs.Lists.{tally, those}
+use Rattle.basics.specs.Lists.{tally}
 use Rattle.basics.proofs.Choice.{by-test, bit-and}
 use Rattle.basics.proofs.Lists.{tally-le, tally-mono, getD-table, length-table}
 use Rattle.sheet.specs.Limits.{mostLabels}
 use Rattle.sheet.specs.Sheet.{Sheet, valueOf, labelOf, rowAt, everyRow}
 use Rattle.sheet.proofs.Index.{column-in}
 use Rattle.side_scan.specs.declared.SideScan.{SideScan}
-use Rattle.cut_score.specs.declared.Best.{Best}
-use Rattle.leaves_score.specs.declared.Two.{Two}
-use Rattle.side_scan.specs.OneSide.{cleared, countRow, onlyCounted, scored, stepOf, leafLabel, leafScore, sideOf}
-use Rattle.leaves_score.specs.Scan.{other, sizeOf, labelled, ownOf, rowStep, stepBoth, ended, scanRows, scanColumn, perfect, scanColumns, startBoth, scanned}
-use Rattle.leaves_score.specs.Kept.{rowsFrom, through, Alike, BothAlike, Owns}
-use Rattle.side_scan.specs.Step.{shareOf, atStart, Sized}
-use Rattle.leaves_score.specs.Lists.{goLeft, Numbered, noBest, bothAt, ReadyColumn, Found, Scannable}
-use Rattle.leaves_score.proofs.Live.{left-is, right-is, step-any, owns-step, owns-cleared, owns-start, rows-order, begin-live}
-use Rattle.leaves_score.proofs.Coupled.{both-rows as coupled-rows}
+use Rattle.two_sides.specs.declared.Two.{Two}
+use Rattle.side_scan.specs.OneSide.{cleared, leafLabel, leafScore, sideOf}
+use Rattle.two_sides.specs.Column.{other, sizeOf, labelled, ownOf, rowStep, stepBoth, ended, scanRows, scanColumn}
+use Rattle.leaves_score.specs.Scan.{perfect, scanColumns, startBoth, scanned}
+use Rattle.two_sides.specs.Kept.{Alike, BothAlike, Owns}
+use Rattle.side_scan.specs.Step.{Sized}
+use Rattle.two_sides.specs.Lists.{goLeft, Numbered, ReadyColumn}
+use Rattle.leaves_score.specs.Lists.{Scannable}
+use Rattle.two_sides.proofs.Live.{left-is, right-is, owns-step, owns-cleared, owns-start, rows-order, begin-live}
 
 -- ---- both sides keep their own numbers
 
@@ -98,85 +96,6 @@ module _ (s : Sheet) (support : ℕ) (mine : ℕ → Bool) (t : SideScan) (h : O
           h .size-is,
           tally-mono (λ r. mine r && eqb (labelOf s r) l) mine (λ r. bit-and (mine r) (eqb (labelOf s r) l)) (everyRow s),
         );
-      }
-
--- ---- what crosses from a column to the next
-
--- rows change nothing that crosses but the best
-crosses : (s : Sheet) (c : ℕ) (rs : List ℕ) (t : SideScan)
-    → cleared (through s c rs t) ≡ atStart (t .own) (t .size) (t .labels) (t .least) ((through s c rs t) .best)
-unfolding through cleared
-crosses s c [] t = refl
-crosses s c (r ∷ rs) t = crosses s c rs (rowStep s c r t) ∙ still t (labelOf s r) (valueOf s c r) (through s c rs (rowStep s c r t) .best)
-  where
-    still : (t : SideScan) (l : ℕ) (v : Float) (b : Best)
-        → atStart (stepOf t c l v .own) (stepOf t c l v .size) (stepOf t c l v .labels) (stepOf t c l v .least) b ≡ atStart (t .own) (t .size) (t .labels) (t .least) b
-    still t l v b =
-        step-any t (λ (u : SideScan). atStart (u .own) (u .size) (u .labels) (u .least) b ≡ atStart (t .own) (t .size) (t .labels) (t .least) b) c l v
-        refl (unfold onlyCounted countRow in refl) (unfold scored countRow in refl)
-
--- the sides put by number start a column alike
-module _ (s : Sheet) (sides : List ℕ) (c : ℕ) (b : Two) (h : ReadyColumn s sides c b) where
-  abbrev pub leveled : Two
-  leveled = bothAt (b .left .own ∷ b .right .own ∷ []) (shareOf (b .left) ∷ shareOf (b .right) ∷ []) (b .left .best ∷ b .right .best ∷ [])
-
-  pub ready-level : ReadyColumn s sides c leveled
-  unfolding cleared
-  ready-level =
-      record {
-        some = h .some;
-        few = h .few;
-        ordered = h .ordered;
-        valued = h .valued;
-        coded = h .coded;
-        numbered = h .numbered;
-        in-rows = h .in-rows;
-        labelled = h .labelled;
-        left-labels = h .left-labels;
-        right-labels = h .right-labels;
-        left-least = h .left-least;
-        right-least = h .right-least;
-        left-small = h .left-small;
-        right-small = h .right-small;
-        left-live = h .left-live;
-        right-live = h .right-live;
-      }
-
-  abbrev column : Two
-  column = scanColumn s (goLeft sides) c b
-
-  -- a side with its best replaced
-  abbrev pub given : SideScan → Best → SideScan
-  given t best =
-      record {
-        own = t .own;
-        size = t .size;
-        labels = t .labels;
-        least = t .least;
-        best = best;
-        seen = t .seen;
-        counted = t .counted;
-        skip = t .skip;
-        closed = t .closed;
-        started = t .started;
-        previous = t .previous;
-      }
-
-  -- what the rows found is what crosses
-  pub column-found : (r : List Best) → Found s sides c leveled r
-      → BothAlike (record { left = given (b .left) (getD r 0 noBest); right = given (b .right) (getD r 1 noBest) }) column
-  unfolding scanColumn cleared
-  column-found r f =
-      let k = coupled-rows s (goLeft sides) c (s .rows) 0 (record { left = cleared (b .left); right = cleared (b .right) }) (h .left-live) (h .right-live) in
-      let mine = those (goLeft sides) (rowsFrom s c (s .rows) 0) in
-      let theirs = those (other (goLeft sides)) (rowsFrom s c (s .rows) 0) in
-      record {
-        left = ap (atStart (b .left .own) (b .left .size) (b .left .labels) (b .left .least))
-            (f .left ∙ ap (λ (t : SideScan). t .best) (k .0))
-            ∙ sym (k .0 ∙ crosses s c mine (cleared (b .left)));
-        right = ap (atStart (b .right .own) (b .right .size) (b .right .labels) (b .right .least))
-            (f .right ∙ ap (λ (t : SideScan). t .best) (k .1))
-            ∙ sym (k .1 ∙ crosses s c theirs (cleared (b .right)));
       }
 
 -- ---- sides that cross alike

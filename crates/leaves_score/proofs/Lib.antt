@@ -1,13 +1,4 @@
-pub mod Counts
-pub mod Live
 pub mod Recorded
-pub mod Single
-pub mod Coupled
-pub mod Places
-pub mod Walk
-pub mod Column
-pub mod Abreast
-pub mod Rows
 pub mod Columns
 pub mod Marks
 pub mod Accepted

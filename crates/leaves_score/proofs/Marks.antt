@@ -11,11 +11,12 @@ use Rattle.basics.specs.Lists.{tally, table}
 use Rattle.basics.proofs.Lists.{table-same}
 use Rattle.sheet.specs.Limits.{mostLabels}
 use Rattle.sheet.specs.Sheet.{Sheet, labelOf, rowAt, everyRow, leastRows}
-use Rattle.leaves_score.specs.declared.Two.{Two}
+use Rattle.two_sides.specs.declared.Two.{Two}
 use Rattle.side_scan.specs.declared.SideScan.{SideScan}
 use Rattle.best_counts.specs.Commonest.{mostOf}
 use Rattle.side_scan.specs.OneSide.{leafBest, cleared, sideOf}
-use Rattle.leaves_score.specs.Scan.{other, sizeOf, labelled, ownOf, startOf, rowStep, stepBoth, ended, scanRows, scanColumn, perfect, scanColumns, startBoth, scanned, sidesOf}
+use Rattle.two_sides.specs.Column.{other, sizeOf, labelled, ownOf, startOf, rowStep, stepBoth, ended, scanRows, scanColumn}
+use Rattle.leaves_score.specs.Scan.{perfect, scanColumns, startBoth, scanned, sidesOf}
 use Rattle.side_scan.specs.Step.{atStart}
 
 tally-table : (p q : ℕ → Bool) (f : ℕ → ℕ) (n : ℕ) → ((k : ℕ) → k < n → bit (p (f k)) ≡ bit (q (f k))) → tally p (table f n) ≡ tally q (table f n)

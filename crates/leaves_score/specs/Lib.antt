@@ -1,5 +1,4 @@
 pub mod Scan
 pub mod Root
-pub mod Kept
 pub mod Recorded
 pub mod Lists

@@ -13,8 +13,8 @@ use Rattle.side_scan.specs.declared.SideScan.{SideScan}
 use Rattle.cut_score.specs.declared.Best.{Best}
 use Rattle.cut_score.specs.Scored.{fallen}
 use Rattle.side_scan.specs.OneSide.{leftBest, totalOf, splitAt, onlyCounted}
-use Rattle.leaves_score.specs.Kept.{Fits}
-use Rattle.leaves_score.proofs.Counts.{fits-step, left-step, total-step, right-few}
+use Rattle.two_sides.specs.Kept.{Fits}
+use Rattle.two_sides.proofs.Counts.{fits-step, left-step, total-step, right-few}
 use Rattle.side_laws.specs.First.{better, firstBest}
 
 -- ---- laws of the first best

@@ -9,11 +9,11 @@ use Rattle.sheet.specs.Sheet.{Sheet, orderOf}
 use Rattle.sheet.specs.Sound.{Sound}
 use Rattle.side_scan.specs.declared.SideScan.{SideScan}
 use Rattle.side_scan.specs.OneSide.{ownAt, cleared, later, rightBest, totalOf, leafScore}
-use Rattle.leaves_score.specs.Scan.{startOf}
-use Rattle.leaves_score.specs.Kept.{Owns, Fits}
+use Rattle.two_sides.specs.Column.{startOf}
+use Rattle.two_sides.specs.Kept.{Owns, Fits}
 use Rattle.best_counts.proofs.Commonest.{most-near}
-use Rattle.leaves_score.proofs.Counts.{left-few}
-use Rattle.leaves_score.proofs.Live.{owns-start, start-fits}
+use Rattle.two_sides.proofs.Counts.{left-few}
+use Rattle.two_sides.proofs.Live.{owns-start, start-fits}
 use Rattle.side_laws.specs.Alone.{columnAlone, columnsAlone, alone}
 use Rattle.side_laws.specs.First.{cutsFrom, cutsOf, allCuts, firstBest, FirstBest}
 use Rattle.side_laws.proofs.Decouple.{owns-column}

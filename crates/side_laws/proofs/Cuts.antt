@@ -17,7 +17,7 @@ use Rattle.threshold.proofs.Law.{measured-comparable}
 use Rattle.sheet.specs.Sheet.{Sheet, rowAt, valueAt, isCut, countOf, placeOf, everyRow, orderOf}
 use Rattle.sheet.specs.Sound.{Sound}
 use Rattle.sheet.proofs.CutsExact.{rising as places-rise}
-use Rattle.leaves_score.specs.Scan.{other, sizeOf}
+use Rattle.two_sides.specs.Column.{other, sizeOf}
 use Rattle.leaves_score.specs.Root.{precedingPlace, cutThreshold, markOf}
 use Rattle.side_laws.specs.Root.{AtCut, AtCuts, Ascends}
 use Rattle.side_laws.proofs.Tallies.{tally-not}

@@ -10,14 +10,15 @@ use Rattle.basics.proofs.Choice.{by-test, and-left, and-right}
 use Rattle.sheet.specs.Sheet.{Sheet, orderOf}
 use Rattle.sheet.specs.Sound.{Sound}
 use Rattle.side_scan.specs.declared.SideScan.{SideScan}
-use Rattle.leaves_score.specs.declared.Two.{Two}
+use Rattle.two_sides.specs.declared.Two.{Two}
 use Rattle.side_scan.specs.OneSide.{cleared}
-use Rattle.leaves_score.specs.Scan.{other, startOf, scanRows, scanColumn, perfect, scanColumns, startBoth, scanned, sidesOf}
-use Rattle.leaves_score.specs.Kept.{through, Alike, Owns, Live}
-use Rattle.leaves_score.proofs.Single.{perfected, owns-through}
-use Rattle.leaves_score.proofs.Coupled.{both-rows}
+use Rattle.two_sides.specs.Column.{other, startOf, scanRows, scanColumn}
+use Rattle.leaves_score.specs.Scan.{perfect, scanColumns, startBoth, scanned, sidesOf}
+use Rattle.two_sides.specs.Kept.{through, Alike, Owns, Live}
+use Rattle.two_sides.proofs.Single.{perfected, owns-through}
+use Rattle.two_sides.proofs.Coupled.{both-rows}
 use Rattle.leaves_score.proofs.Columns.{side-alike, owns-alike}
-use Rattle.leaves_score.proofs.Live.{owns-start, owns-cleared, rows-order, start-live}
+use Rattle.two_sides.proofs.Live.{owns-start, owns-cleared, rows-order, start-live}
 use Rattle.side_laws.specs.Alone.{columnAlone, columnsAlone, alone, sideAlone, Decoupled, Decouples}
 
 twice : (t : SideScan) → cleared (cleared t) ≡ cleared t

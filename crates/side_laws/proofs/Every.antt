@@ -18,15 +18,15 @@ use Rattle.cut_score.specs.declared.Best.{Best}
 use Rattle.best_counts.specs.Counts.{noRows}
 use Rattle.cut_score.specs.Scored.{fallen}
 use Rattle.side_scan.specs.OneSide.{nought, cleared, quiet, rowsLeft, leftBest, rightBest, totalOf, supported, takes, splitAt, bestAfter, skipAfter, closes, countRow, onlyCounted, scored}
-use Rattle.leaves_score.specs.Scan.{sizeOf, ownOf, startOf}
-use Rattle.leaves_score.specs.Kept.{through, Owns, Fits, Open}
-use Rattle.leaves_score.proofs.Counts.{rows-left}
-use Rattle.leaves_score.proofs.Live.{best-left, skip-taken, skip-left, skip-low, step-open, open-counted, open-scored, owns-start, start-live}
+use Rattle.two_sides.specs.Column.{sizeOf, ownOf, startOf}
+use Rattle.two_sides.specs.Kept.{through, Owns, Fits, Open}
+use Rattle.two_sides.proofs.Counts.{rows-left}
+use Rattle.two_sides.proofs.Live.{best-left, skip-taken, skip-left, skip-low, step-open, open-counted, open-scored, owns-start, start-live}
 use Rattle.side_laws.specs.Alone.{columnAlone, columnsAlone, alone}
 use Rattle.side_laws.specs.First.{better, firstBest}
 use Rattle.side_laws.specs.Every.{pureFrom, offersFrom, offersOf, allOffers, Offered}
 use Rattle.side_laws.proofs.Tests.{pick-and, pick-and-true, pick-same}
-use Rattle.leaves_score.proofs.Single.{shut}
+use Rattle.two_sides.proofs.Single.{shut}
 use Rattle.side_laws.proofs.Decouple.{owns-column}
 use Rattle.side_laws.proofs.Best.{bare, starts, better-low, first-low, first-append, split-score, next, next-fits, next-total, next-left, total-pure}
 

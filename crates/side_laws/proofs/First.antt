@@ -15,8 +15,8 @@ use Rattle.sheet.specs.Sheet.{Sheet, valueOf}
 use Rattle.side_scan.specs.declared.SideScan.{SideScan}
 use Rattle.cut_score.specs.declared.Best.{Best}
 use Rattle.side_scan.specs.OneSide.{rowsLeft, leftBest, rightBest, totalOf, supported, splitAt, countRow, onlyCounted}
-use Rattle.leaves_score.specs.Kept.{Fits}
-use Rattle.leaves_score.proofs.Counts.{rows-left}
+use Rattle.two_sides.specs.Kept.{Fits}
+use Rattle.two_sides.proofs.Counts.{rows-left}
 use Rattle.side_laws.specs.First.{cutsFrom, better, firstBest}
 use Rattle.side_laws.specs.Every.{pureFrom}
 use Rattle.side_laws.proofs.Best.{bare, starts, next, next-fits, next-left, total-pure, split-score, better-other, first-low}

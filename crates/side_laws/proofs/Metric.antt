@@ -11,7 +11,7 @@ use Rattle.order.specs.Order.{key, comparable}
 use Rattle.threshold.proofs.Law.{measured-comparable}
 use Rattle.sheet.specs.Sheet.{Sheet, countOf, placeOf}
 use Rattle.sheet.specs.Sound.{Sound}
-use Rattle.leaves_score.specs.Scan.{other}
+use Rattle.two_sides.specs.Column.{other}
 use Rattle.leaves_score.specs.Root.{cutThreshold, markOf, sidesAt, errorsAt}
 use Rattle.side_laws.specs.Opt.{Opt}
 use Rattle.side_laws.specs.Root.{AtCut, Moved, Moves}

@@ -14,7 +14,8 @@ use Rattle.sheet.specs.Sheet.{Sheet, valueOf, labelOf, everyRow}
 use Rattle.tree.specs.Answer.{sideError}
 use Rattle.tree.specs.declared.Side.{Side}
 use Rattle.tree.specs.declared.Side.the-variants.{Leaf, Split}
-use Rattle.leaves_score.specs.Scan.{other, sizeOf, sidesOf}
+use Rattle.two_sides.specs.Column.{other, sizeOf}
+use Rattle.leaves_score.specs.Scan.{sidesOf}
 use Rattle.side_laws.specs.Told.{leftPart, rightPart, wrongOf, Told}
 use Rattle.side_laws.specs.Opt.{answer, mistakes, Proper, Grows, Mistaken}
 use Rattle.side_laws.proofs.Tallies.{rows-shift}

@@ -21,11 +21,11 @@ use Rattle.side_scan.specs.declared.SideScan.{SideScan}
 use Rattle.cut_score.specs.declared.Best.{Best}
 use Rattle.cut_score.specs.Scored.{fallen}
 use Rattle.side_scan.specs.OneSide.{cleared, before, later, leftBest, rightBest, totalOf, splitAt, countRow, onlyCounted}
-use Rattle.leaves_score.specs.Scan.{other, sizeOf, ownOf, startOf}
-use Rattle.leaves_score.specs.Kept.{Owns, Fits}
+use Rattle.two_sides.specs.Column.{other, sizeOf, ownOf, startOf}
+use Rattle.two_sides.specs.Kept.{Owns, Fits}
 use Rattle.best_counts.proofs.Commonest.{most}
-use Rattle.leaves_score.proofs.Counts.{fits-step, later-is}
-use Rattle.leaves_score.proofs.Live.{own-at, owns-start, owns-cleared, start-fits}
+use Rattle.two_sides.proofs.Counts.{fits-step, later-is}
+use Rattle.two_sides.proofs.Live.{own-at, owns-start, owns-cleared, start-fits}
 use Rattle.side_laws.specs.Alone.{columnAlone, columnsAlone, alone, sideAlone}
 use Rattle.side_laws.specs.First.{better, firstBest}
 use Rattle.side_laws.specs.Opt.{mistakes, Proper, Opt, Optimal}

@@ -17,7 +17,7 @@ use Rattle.sheet.specs.Sheet.{Sheet, valueOf, labelOf, everyRow, orderOf}
 use Rattle.sheet.specs.Sound.{Sound}
 use Rattle.side_scan.specs.declared.SideScan.{SideScan}
 use Rattle.side_scan.specs.OneSide.{cleared, raised}
-use Rattle.leaves_score.proofs.Counts.{raised-at, none-at}
+use Rattle.two_sides.proofs.Counts.{raised-at, none-at}
 use Rattle.side_laws.proofs.Fair.{keyOf, Sorted, inside, sorted, sorted-those}
 
 -- ---- a test that divides two lists

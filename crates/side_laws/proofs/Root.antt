@@ -16,7 +16,7 @@ use Rattle.order.specs.Order.{key, comparable}
 use Rattle.sheet.specs.Sheet.{Sheet, labelOf, rowAt, valueAt, countOf, placeOf, everyRow, orderOf}
 use Rattle.sheet.specs.Sound.{Sound}
 use Rattle.tree.specs.declared.Side.{Side}
-use Rattle.leaves_score.specs.Scan.{other, sizeOf}
+use Rattle.two_sides.specs.Column.{other, sizeOf}
 use Rattle.leaves_score.specs.Root.{cutThreshold, markOf, sidesAt, errorsAt}
 use Rattle.side_laws.specs.Opt.{answer, mistakes}
 use Rattle.side_laws.specs.Root.{SameRows, AnyRoot, rootMistakes, CutMistakes, RootLeast, OneSide}

@@ -22,10 +22,10 @@ use Rattle.side_scan.specs.declared.SideScan.{SideScan}
 use Rattle.cut_score.specs.declared.Best.{Best}
 use Rattle.best_counts.specs.Commonest.{commonest, mostOf}
 use Rattle.side_scan.specs.OneSide.{ownAt, leafLabel, leafScore, sideOf}
-use Rattle.leaves_score.specs.Scan.{other, sizeOf, labelled, ownOf, startOf}
-use Rattle.leaves_score.specs.Kept.{Owns}
+use Rattle.two_sides.specs.Column.{other, sizeOf, labelled, ownOf, startOf}
+use Rattle.two_sides.specs.Kept.{Owns}
 use Rattle.best_counts.proofs.Commonest.{commonest-in}
-use Rattle.leaves_score.proofs.Live.{own-at, owns-start}
+use Rattle.two_sides.proofs.Live.{own-at, owns-start}
 use Rattle.side_laws.specs.Alone.{alone, sideAlone}
 use Rattle.side_laws.specs.Told.{leftPart, rightPart, wrongOf, SplitTold, Told, Tells, ErrorsAddUp}
 use Rattle.side_laws.proofs.Decouple.{owns-columns, decouples}

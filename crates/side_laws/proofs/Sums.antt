@@ -9,11 +9,11 @@ use Rattle.sheet.specs.Sheet.{Sheet}
 use Rattle.sheet.specs.Sound.{Sound}
 use Rattle.side_scan.specs.declared.SideScan.{SideScan}
 use Rattle.side_scan.specs.OneSide.{cleared}
-use Rattle.leaves_score.specs.Scan.{startOf, rowStep}
-use Rattle.leaves_score.specs.Kept.{through, Owns, Fits, Live}
-use Rattle.leaves_score.proofs.Live.{own-at, live-step, start-live, owns-start, owns-cleared}
+use Rattle.two_sides.specs.Column.{startOf, rowStep}
+use Rattle.two_sides.specs.Kept.{through, Owns, Fits, Live}
+use Rattle.two_sides.proofs.Live.{own-at, live-step, start-live, owns-start, owns-cleared}
 use Rattle.side_laws.specs.Alone.{columnsAlone, AddUp, AddsUp}
-use Rattle.leaves_score.proofs.Single.{owns-through}
+use Rattle.two_sides.proofs.Single.{owns-through}
 use Rattle.side_laws.proofs.Decouple.{owns-columns}
 
 live-through : (s : Sheet) (c : ℕ) (done rest : List ℕ) (t : SideScan) → Live s (done ++ rest) t → Live s rest (through s c done t)

@@ -22,13 +22,13 @@ use Rattle.cut_score.specs.declared.Best.{Best}
 use Rattle.best_counts.specs.Commonest.{commonest, mostOf}
 use Rattle.cut_score.specs.Scored.{fallen}
 use Rattle.side_scan.specs.OneSide.{cleared, quiet, before, later, rowsLeft, leftBest, rightBest, totalOf, supported, takes, splitAt, bestAfter, countRow, onlyCounted, scored}
-use Rattle.leaves_score.specs.Scan.{sizeOf, ownOf, startOf}
-use Rattle.leaves_score.specs.Kept.{through, Owns, Fits, Live}
+use Rattle.two_sides.specs.Column.{sizeOf, ownOf, startOf}
+use Rattle.two_sides.specs.Kept.{through, Owns, Fits, Live}
 use Rattle.best_counts.proofs.Commonest.{commonest-in}
-use Rattle.leaves_score.proofs.Counts.{later-is, rows-left, left-few, right-few}
-use Rattle.leaves_score.proofs.Live.{best-taken, best-left, step-open, step-closed, open-counted, open-scored, owns-start, owns-cleared, start-live}
+use Rattle.two_sides.proofs.Counts.{later-is, rows-left, left-few, right-few}
+use Rattle.two_sides.proofs.Live.{best-taken, best-left, step-open, step-closed, open-counted, open-scored, owns-start, owns-cleared, start-live}
 use Rattle.side_laws.specs.Alone.{columnAlone, columnsAlone, alone}
-use Rattle.leaves_score.proofs.Single.{shut}
+use Rattle.two_sides.proofs.Single.{shut}
 use Rattle.side_laws.proofs.Decouple.{owns-column}
 use Rattle.side_laws.proofs.Tallies.{tally-not, tally-always, rows-alike}
 use Rattle.side_laws.proofs.Fair.{keyOf, alike}

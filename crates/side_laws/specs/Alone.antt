@@ -11,9 +11,10 @@ use Rattle.sheet.specs.Sheet.{Sheet, labelOf, orderOf}
 use Rattle.sheet.specs.Sound.{Sound}
 use Rattle.tree.specs.declared.Side.{Side}
 use Rattle.side_scan.specs.declared.SideScan.{SideScan}
-use Rattle.leaves_score.specs.Kept.{through}
+use Rattle.two_sides.specs.Kept.{through}
 use Rattle.side_scan.specs.OneSide.{cleared, before, sideOf}
-use Rattle.leaves_score.specs.Scan.{other, sizeOf, labelled, startOf, sidesOf}
+use Rattle.two_sides.specs.Column.{other, sizeOf, labelled, startOf}
+use Rattle.leaves_score.specs.Scan.{sidesOf}
 
 unfoldable pub columnAlone : Sheet → (ℕ → Bool) → ℕ → SideScan → SideScan
 columnAlone s mine c t = through s c (those mine (orderOf s c)) (cleared t)

@@ -13,7 +13,7 @@ use Rattle.sheet.specs.Sound.{Sound}
 use Rattle.side_scan.specs.declared.SideScan.{SideScan}
 use Rattle.cut_score.specs.declared.Best.{Best}
 use Rattle.side_scan.specs.OneSide.{rowsLeft, rightBest, supported, splitAt, onlyCounted}
-use Rattle.leaves_score.specs.Scan.{startOf}
+use Rattle.two_sides.specs.Column.{startOf}
 use Rattle.side_laws.specs.Alone.{alone}
 use Rattle.side_laws.specs.First.{firstBest}
 

@@ -13,7 +13,7 @@ use Rattle.sheet.specs.Sound.{Sound}
 use Rattle.side_scan.specs.declared.SideScan.{SideScan}
 use Rattle.cut_score.specs.declared.Best.{Best}
 use Rattle.side_scan.specs.OneSide.{splitAt, onlyCounted}
-use Rattle.leaves_score.specs.Scan.{startOf}
+use Rattle.two_sides.specs.Column.{startOf}
 use Rattle.side_laws.specs.Alone.{alone}
 
 -- the cuts before the rows of a list, as splits: where the value is another than the previous row's. Each row is only counted.

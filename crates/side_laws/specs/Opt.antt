@@ -12,7 +12,8 @@ use Rattle.sheet.specs.Sound.{Sound}
 use Rattle.tree.specs.Answer.{sideError}
 use Rattle.tree.specs.declared.Side.{Side}
 use Rattle.tree.specs.declared.Side.the-variants.{Leaf, Split}
-use Rattle.leaves_score.specs.Scan.{other, sizeOf, sidesOf}
+use Rattle.two_sides.specs.Column.{other, sizeOf}
+use Rattle.leaves_score.specs.Scan.{sidesOf}
 
 -- the label that a leaf or a question gives a row
 unfoldable pub answer : Sheet → Side → ℕ → ℕ

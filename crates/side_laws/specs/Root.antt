@@ -12,7 +12,7 @@ use Rattle.threshold.specs.Laws.{Measured}
 use Rattle.sheet.specs.Sheet.{Sheet, labelOf, rowAt, valueAt, countOf, placeOf, everyRow}
 use Rattle.sheet.specs.Sound.{Sound}
 use Rattle.tree.specs.declared.Side.{Side}
-use Rattle.leaves_score.specs.Scan.{other, sizeOf}
+use Rattle.two_sides.specs.Column.{other, sizeOf}
 use Rattle.leaves_score.specs.Root.{precedingPlace, cutThreshold, markOf, sidesAt, errorsAt}
 use Rattle.side_laws.specs.Opt.{answer, mistakes, Proper}
 

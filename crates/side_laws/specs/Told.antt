@@ -13,7 +13,8 @@ use Rattle.sheet.specs.Sound.{Sound}
 use Rattle.tree.specs.Answer.{sideError}
 use Rattle.tree.specs.declared.Side.{Side}
 use Rattle.tree.specs.declared.Side.the-variants.{Leaf, Split}
-use Rattle.leaves_score.specs.Scan.{other, sizeOf, sidesOf}
+use Rattle.two_sides.specs.Column.{other, sizeOf}
+use Rattle.leaves_score.specs.Scan.{sidesOf}
 use Rattle.side_laws.specs.Alone.{alone, sideAlone}
 
 -- "Rows with value ≤ threshold go left.": the rows of a side that a question sends to its left and to its right

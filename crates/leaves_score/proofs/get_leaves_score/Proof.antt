@@ -2,9 +2,10 @@
 use mathlib.Core.Path.{ap₂, _∙_}
 use Rattle.sheet.specs.Sheet.{Sheet}
 use Rattle.tree.specs.declared.Side.{Side}
-use Rattle.leaves_score.specs.Scan.{other, scanned, sidesOf}
+use Rattle.two_sides.specs.Column.{other}
+use Rattle.leaves_score.specs.Scan.{scanned, sidesOf}
 use Rattle.side_scan.specs.Step.{Sized}
-use Rattle.leaves_score.specs.Lists.{sheetOf, goLeft}
+use Rattle.two_sides.specs.Lists.{sheetOf, goLeft}
 use Rattle.leaves_score.proofs.Columns.{Both, both-scanned, both-alike, side-alike, sized}
 use borrow.Author.Needs.{needs}
 use Rattle.leaves_score.proofs.get_leaves_score.Statement.{statement}

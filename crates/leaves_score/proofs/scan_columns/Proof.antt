@@ -10,11 +10,13 @@ use lib.Ieee.{Float}
 use Rattle.sheet.specs.Sheet.{Sheet, labelOf, leastRows}
 use Rattle.side_scan.specs.declared.SideScan.{SideScan}
 use Rattle.sheet.specs.declared.Size.{Size}
-use Rattle.leaves_score.specs.declared.Parted.{Parted}
-use Rattle.leaves_score.specs.Scan.{other, sizeOf, labelled, ownOf, startOf, startBoth, scanned}
-use Rattle.leaves_score.specs.Kept.{BothAlike}
+use Rattle.two_sides.specs.declared.Parted.{Parted}
+use Rattle.two_sides.specs.Column.{other, sizeOf, labelled, ownOf, startOf}
+use Rattle.leaves_score.specs.Scan.{startBoth, scanned}
+use Rattle.two_sides.specs.Kept.{BothAlike}
 use Rattle.side_scan.specs.Step.{leafScan}
-use Rattle.leaves_score.specs.Lists.{sheetOf, goLeft, Numbered, rowsOnly, partedOf, ReadyColumn, ReadyRows, Scannable}
+use Rattle.two_sides.specs.Lists.{sheetOf, goLeft, Numbered, rowsOnly, partedOf, ReadyColumn, ReadyRows}
+use Rattle.leaves_score.specs.Lists.{Scannable}
 use Rattle.leaves_score.proofs.Marks.{starts-alike, scanned-alike}
 use Rattle.leaves_score.proofs.Columns.{Scanning, begins, finished, stops, goes-on, ready-column, same-side}
 use Rattle.leaves_score.proofs.scan_columns.Statement.{statement}

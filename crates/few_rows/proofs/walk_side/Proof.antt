@@ -1,0 +1,207 @@
+-- `few_rows::walk_side` meets its contract: the loop keeps `Walking` (`Walk.antt`). Assumes nothing.
+use Prim.Native.Nat.{ℕ, _+_, _-_, _*_, _<_}
+use mathlib.Core.Path.{_≡_, sym, ap, ap₂, subst, _∙_}
+use mathlib.Core.Bool.{true}
+use mathlib.Core.Logic.{⊎-elim}
+use native.Mathlib.Omega.{arith}
+use borrow.Author.Needs.{needs}
+use lib.ListN.{length, getD}
+use lib.Ieee.{Float, nan}
+use Rattle.sheet.specs.Sheet.{Sheet, valueOf, labelOf, rowAt}
+use Rattle.side_scan.specs.declared.SideScan.{SideScan}
+use Rattle.side_scan.specs.OneSide.{stepOf}
+use Rattle.side_scan.specs.Step.{Steppable}
+use Rattle.two_sides.specs.Lists.{sheetOf, mine}
+use Rattle.two_sides.proofs.Places.{below, place-in, twice-in, eight-in, within-list}
+use Rattle.few_rows.proofs.Walk.{Walking, begins, finished, passes, takes, steppable}
+use Rattle.few_rows.proofs.walk_side.Statement.{statement}
+use Rattle.few_rows.proofs.walk_side.Tie as tie
+
+abbrev Inv-loop : tie.InvT-loop
+Inv-loop left size column values codes order sides next₀ base i₀ next i = Walking (sheetOf size values codes order) sides column left next₀ i next
+
+abbrev μ-loop : tie.MeasureT-loop
+μ-loop left size column values codes order sides next₀ base i₀ next i = size .rows - i
+
+restart-requires : tie.Need-restart-requires Inv-loop μ-loop
+restart-requires c κs = search needs
+
+mul-base : tie.Need-mul-base Inv-loop μ-loop
+mul-base c =
+    let p = c .before .before .before .before .before in
+    record { fits = below (p .args .column * p .args .size .rows) (p .args .size .rows) (length (p .args .order .now)) (p .pre .ordered) (p .good .1 .1 .1 .1 .1 .1 .0 .0) }
+
+loop-holds : tie.Need-loop-holds Inv-loop μ-loop
+loop-holds c =
+    let p = c .before .before .before .before .before in
+    let a = p .args in
+    begins (sheetOf (a .size) (a .values .now) (a .codes .now) (a .order .now)) (a .sides .now) (a .column) (a .left) (c .before .restart .result) (a .side) (p .pre) (c .before .restart .ensures)
+
+-- the function's start, from the loop's head
+abbrev start-of : tie.At-loop Inv-loop μ-loop → tie.Start Inv-loop μ-loop
+start-of h = h .before .before .before .before .before .before
+
+add-row-number : tie.Need-add-row-number Inv-loop μ-loop
+add-row-number c =
+    let p = start-of (c .before .before) in
+    record { fits = place-in (p .args .column * p .args .size .rows) (c .before .before .loop .i) (p .args .size .rows) (length (p .args .order .now)) (c .if1 .taken) (p .pre .ordered) (p .good .1 .1 .1 .1 .1 .1 .0 .0) }
+
+mul-row-number : tie.Need-mul-row-number Inv-loop μ-loop
+mul-row-number c =
+    let p = start-of (c .before .before) in
+    record { fits = twice-in (p .args .column * p .args .size .rows) (c .before .before .loop .i) (p .args .size .rows) (length (p .args .order .now)) (c .if1 .taken) (p .pre .ordered) (p .good .1 .1 .1 .1 .1 .1 .0 .1) }
+
+shared-slice-read-row-number : tie.Need-shared-slice-read-row-number Inv-loop μ-loop
+shared-slice-read-row-number c =
+    let p = start-of (c .before .before .before) in
+    within-list (p .args .column * p .args .size .rows) (c .before .before .before .loop .i) (p .args .size .rows) (length (p .args .order .now)) (c .before .if1 .taken) (p .pre .ordered)
+
+row-number-requires : tie.Need-row-number-requires Inv-loop μ-loop
+row-number-requires c κs = search needs
+
+-- at a row: the loop's head, and that the row is one of the sheet's
+module _ (c : tie.After-row-number Inv-loop μ-loop) where
+  abbrev head : tie.At-loop Inv-loop μ-loop
+  head = c .before .before .before .before
+
+  abbrev start : tie.Start Inv-loop μ-loop
+  start = start-of head
+
+  abbrev first : SideScan
+  first = head .before .before .restart .result
+
+  abbrev sheet : Sheet
+  sheet = sheetOf (start .args .size) (start .args .values .now) (start .args .codes .now) (start .args .order .now)
+
+  abbrev base : ℕ
+  base = start .args .column * start .args .size .rows
+
+  abbrev row : ℕ
+  row = rowAt sheet (start .args .column) (head .loop .i)
+
+  test : head .loop .i < start .args .size .rows
+  test = c .before .before .if1 .taken
+
+  row-is : c .row-number .result ≡ row
+  unfolding rowAt
+  row-is = c .row-number .ensures
+
+  row-in : c .row-number .result < start .args .size .rows
+  row-in = subst (λ (n : ℕ). n < start .args .size .rows) (sym row-is) (start .pre .in-rows (head .loop .i) test)
+
+element-copy-out-is-own : tie.Need-element-copy-out-is-own Inv-loop μ-loop
+element-copy-out-is-own c = omega (arith, row-in c, start c .pre .few)
+
+is-own-requires : tie.Need-is-own-requires Inv-loop μ-loop
+is-own-requires c κs = search needs
+
+shared-slice-read-label-number : tie.Need-shared-slice-read-label-number Inv-loop μ-loop
+shared-slice-read-label-number c =
+    let d = c .before .before .before .before in
+    omega (arith, row-in d, start d .pre .coded)
+
+label-number-requires : tie.Need-label-number-requires Inv-loop μ-loop
+label-number-requires c κs = search needs
+
+add-value : tie.Need-add-value Inv-loop μ-loop
+add-value c =
+    let d = c .before .before .before .before .before in
+    record { fits = place-in (base d) (d .row-number .result) (start d .args .size .rows) (length (start d .args .values .now)) (row-in d) (start d .pre .valued) (start d .good .1 .1 .1 .1 .0 .0) }
+
+mul-value : tie.Need-mul-value Inv-loop μ-loop
+mul-value c =
+    let d = c .before .before .before .before .before in
+    record { fits = eight-in (base d) (d .row-number .result) (start d .args .size .rows) (length (start d .args .values .now)) (row-in d) (start d .pre .valued) (start d .good .1 .1 .1 .1 .0 .1) }
+
+shared-slice-read-value : tie.Need-shared-slice-read-value Inv-loop μ-loop
+shared-slice-read-value c =
+    let d = c .before .before .before .before .before .before in
+    within-list (base d) (d .row-number .result) (start d .args .size .rows) (length (start d .args .values .now)) (row-in d) (start d .pre .valued)
+
+-- at the test of the row's side
+module _ (c : tie.After-is-own Inv-loop μ-loop) where
+  abbrev at : tie.After-row-number Inv-loop μ-loop
+  at = c .before .before
+
+  own-is : c .is-own .result ≡ mine (start at .args .left) (start at .args .sides .now) (row at)
+  own-is = c .is-own .ensures ∙ ap (mine (start at .args .left) (start at .args .sides .now)) (row-is at)
+
+  abbrev Next : SideScan → Type 0
+  Next = Walking (sheet at) (start at .args .sides .now) (start at .args .column) (start at .args .left) (first at) (head at .loop .i + 1)
+
+  -- a row's label, read by the number that the code has
+  label-at : (l : ℕ) → l ≡ getD (start at .args .codes .now) (at .row-number .result) 0 → l ≡ labelOf (sheet at) (row at)
+  unfolding labelOf
+  label-at l e = e ∙ ap (λ (r : ℕ). getD (start at .args .codes .now) r 0) (row-is at)
+
+  value-at : getD (start at .args .values .now) (base at + at .row-number .result) nan ≡ valueOf (sheet at) (start at .args .column) (row at)
+  unfolding valueOf
+  value-at = ap (λ (r : ℕ). getD (start at .args .values .now) (base at + r) nan) (row-is at)
+
+  advances : (l : ℕ) → l ≡ getD (start at .args .codes .now) (at .row-number .result) 0 → (u : SideScan)
+      → u ≡ stepOf (head at .loop .next) (start at .args .column) l (getD (start at .args .values .now) (base at + at .row-number .result) nan) → c .is-own .result ≡ true → Next u
+  advances l k u e y =
+      subst Next
+      (sym (e ∙ ap₂ (λ (l : ℕ) (v : Float). stepOf (head at .loop .next) (start at .args .column) l v) (label-at l k) value-at))
+      (takes (sheet at) (start at .args .sides .now) (start at .args .column) (start at .args .left) (first at) (head at .loop .i) (head at .loop .next) (head at .loop .inv) (test at) (c .is-own .result) own-is y)
+
+  can : (l : ℕ) → l ≡ getD (start at .args .codes .now) (at .row-number .result) 0 → c .is-own .result ≡ true → Steppable (head at .loop .next) l
+  can l k y =
+      subst (Steppable (head at .loop .next)) (sym (label-at l k))
+      (steppable (sheet at) (start at .args .sides .now) (start at .args .column) (start at .args .left) (first at) (head at .loop .i) (head at .loop .next) (head at .loop .inv) (test at) (c .is-own .result) own-is y
+      (start at .args .side) (start at .pre))
+
+advanced-requires : tie.Need-advanced-requires Inv-loop μ-loop
+advanced-requires c κs =
+    let d = c .before .before .before .before in
+    can d (c .before .label-number .result) (c .before .label-number .ensures) (c .before .before .before .if2 .taken)
+
+add-i : tie.Need-add-i Inv-loop μ-loop
+add-i c = search needs
+
+loop-less : tie.Need-loop-less Inv-loop μ-loop
+loop-less c = search needs
+
+loop-again : tie.Need-loop-again Inv-loop μ-loop
+loop-again c =
+    let d = c .before in
+    ⊎-elim
+    (λ w. subst (Next d) (sym (w .5)) (advances d (w .2 .result) (w .2 .ensures) (w .4 .result) (w .4 .ensures) (w .0 .taken)))
+    (λ w. subst (Next d) (sym (w .1))
+    (passes (sheet (at d)) (start (at d) .args .sides .now) (start (at d) .args .column) (start (at d) .args .left) (first (at d)) (head (at d) .loop .i) (head (at d) .loop .next) (head (at d) .loop .inv) (test (at d))
+    (d .is-own .result) (own-is d) (w .0 .left)))
+    (c .if2 .came)
+
+returns : tie.Need-returns Inv-loop μ-loop
+returns c =
+    let h = c .before .before in
+    let p = start-of h in
+    let a = p .args in
+    finished (sheetOf (a .size) (a .values .now) (a .codes .now) (a .order .now)) (a .sides .now) (a .column) (a .left) (h .before .before .restart .result) (h .loop .i) (h .loop .next) (h .loop .inv) (a .side)
+    (h .before .before .restart .ensures) (c .if1 .left)
+
+pub walk-side-spec : {M : Type 1} → statement M
+walk-side-spec =
+    tie.close
+    (tie.spec
+    Inv-loop
+    μ-loop
+    restart-requires
+    mul-base
+    loop-holds
+    add-row-number
+    mul-row-number
+    shared-slice-read-row-number
+    row-number-requires
+    element-copy-out-is-own
+    is-own-requires
+    shared-slice-read-label-number
+    label-number-requires
+    add-value
+    mul-value
+    shared-slice-read-value
+    advanced-requires
+    add-i
+    loop-less
+    loop-again
+    returns)

@@ -1,0 +1,3 @@
+pub mod Column
+pub mod Kept
+pub mod Lists

@@ -1,0 +1,121 @@
+// The two sides of a root split: which rows are whose, and where each side stands in a column.
+ghost use mathlib.Core.Path.{_≡_};
+ghost use Prim.Native.Nat.{_≤_, _<_};
+ghost use lib.Dec.{eqb};
+ghost use lib.ListN.{length};
+ghost use Rattle.basics.specs.Choice.{pick};
+ghost use Rattle.sheet.specs.Limits.{mostRows};
+ghost use Rattle.cut_score.specs.Scored.{notBegun};
+ghost use Rattle.two_sides.specs.Lists.{Numbered, bothSkip, ReadyRows, partedOf};
+use cut_score::Share;
+use cut_score::Stand;
+use sheet::MOST_LABELS;
+use sheet::MOST_ROWS;
+use side_scan::SideScan;
+
+// The left side is number 0, the right side number 1.
+pub const SIDES: usize = 2;
+
+// The scans of the two sides, which go through a column together.
+pub struct Two {
+    pub left: SideScan,
+    pub right: SideScan,
+}
+
+// The rows of the two sides: of each label and in all, `own` and `size` of the left one, `other` and `rest` of the right one.
+pub struct Parted {
+    pub own: [u16; MOST_LABELS],
+    pub size: u32,
+    pub other: [u16; MOST_LABELS],
+    pub rest: u32,
+}
+
+pub fn row_number(entry: u16) -> usize
+    ensures { λ r. ⌜ r ≡ entry ⌝ }
+{
+    entry as usize
+}
+
+pub fn label_number(code: u8) -> usize
+    ensures { λ r. ⌜ r ≡ code ⌝ }
+{
+    code as usize
+}
+
+// A side before the first row of a column.
+pub fn not_begun() -> Stand
+    ensures { λ r. ⌜ r ≡ notBegun ⌝ }
+{
+    Stand {
+        counted: 0,
+        until: 0,
+        last: 0,
+    }
+}
+
+// No side has a cut to come that could be taken. The right side is asked first: so the loop over the labels stays short in the compiled code.
+pub fn is_over(stand: [Stand; SIDES], share: [Share; SIDES]) -> bool
+    ensures { λ r. ⌜ r ≡ bothSkip stand share ⌝ }
+{
+    if share[1].size <= stand[1].until {
+        share[0].size <= stand[0].until
+    } else {
+        false
+    }
+}
+
+// The number of the side that a mark sends a row to.
+fn marked_side(mark: u32) -> usize
+    ensures { λ r. ⌜ r ≡ pick (eqb mark 0) 0 1 ⌝ }
+{
+    if mark == 0 { 0 } else { 1 }
+}
+
+fn side_byte(side: usize) -> u8
+    requires { ⌜ side < 2 ⌝ }
+    ensures { λ r. ⌜ r ≡ side ⌝ }
+{
+    side as u8
+}
+
+fn side_count(side: usize) -> u32
+    requires { ⌜ side < 2 ⌝ }
+    ensures { λ r. ⌜ r ≡ side ⌝ }
+{
+    side as u32
+}
+
+fn row_count(rows: usize) -> u32
+    requires { ⌜ rows ≤ mostRows ⌝ }
+    ensures { λ r. ⌜ r ≡ rows ⌝ }
+{
+    rows as u32
+}
+
+// How many rows of each label go to each side, and how many in all; and each row's side as a number.
+pub fn part_rows(rows: usize, codes: &[u8], marks: &[u32], sides: &mut [u8; MOST_ROWS]) -> Parted
+    requires { ⌜ ReadyRows rows (now codes) (now marks) × (rows ≤ length (now sides)) ⌝ }
+    ensures { λ r. ⌜ r ≡ partedOf rows (now (codes .entry)) (now (marks .entry)) ⌝ }
+    ensures numbered { λ _. ⌜ Numbered rows (now (marks .entry)) (now (sides .exit)) ⌝ }
+{
+    let mut counts: [[u16; MOST_LABELS]; SIDES] = [[0; MOST_LABELS]; SIDES];
+    let mut rest: u32 = 0;
+    let mut row: usize = 0;
+    while row < rows {
+        let label = label_number(codes[row]);
+        let side = marked_side(marks[row]);
+        counts[side][label] = counts[side][label] + 1;
+        sides[row] = side_byte(side);
+        rest += side_count(side);
+        row += 1;
+    }
+    let own = counts[0];
+    let other = counts[1];
+    let size = row_count(rows) - rest;
+    Parted {
+        own,
+        size,
+        other,
+        rest,
+    }
+}
