@@ -15,11 +15,13 @@ use Rattle.depth2.specs.Search.{searchOf}
 use Rattle.prepare.specs.declared.Prepared.the-variants.{Done}
 use Rattle.prepare.specs.Prepared.{answerOf}
 use Rattle.prepare.specs.Laws.{preparedSheet}
-use Rattle.sheet_bytes.specs.declared.Head.{Head}
+use Rattle.sheet_head.specs.declared.Head.{Head}
 use Rattle.sheet_bytes.specs.declared.Read.{Read}
 use Rattle.sheet_bytes.specs.declared.Read.the-variants as read
 use Rattle.sheet_room.specs.Room.{mostRead}
-use Rattle.sheet_bytes.specs.Read.{Small, cellsOf, valuesOf, codesOf, readOf}
+use Rattle.sheet_head.specs.Head.{Small, cellsOf}
+use Rattle.sheet_cells.specs.Cells.{valuesOf, codesOf}
+use Rattle.sheet_bytes.specs.Read.{readOf}
 
 -- the header's numbers, as those of a sheet and of a search
 abbrev pub sizeOf : Head → Size

@@ -10,8 +10,8 @@ ghost use Rattle.rule_finder.specs.Run.{sizeOf, termsOf, wordsLent, runO
 use sheet::MOST_COLUMNS;
 use sheet::Size;
 use sheet::Terms;
-use sheet_bytes::Head;
 use sheet_bytes::Read;
+use sheet_head::Head;
 use sheet_room::MOST_CELLS;
 use sheet_room::MOST_READ;
 use tree::Answer;

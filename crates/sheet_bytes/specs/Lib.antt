@@ -1,4 +1,3 @@
-pub mod Bytes
 pub mod Reasons
 pub mod Read
 pub mod Laws
