@@ -13,7 +13,7 @@ use Rattle.prepare.specs.declared.Prepared.the-variants.{Done}
 use Rattle.prepare.specs.Prepared.{orderList, cutList, countList, answerOf, leaves, PreparedOf}
 use Rattle.prepare.specs.Laws.{preparedSheet}
 use Rattle.sheet_head.specs.declared.Head.{Head}
-use Rattle.rule_finder.specs.Run.{sizeOf, termsOf}
+use Rattle.head_numbers.specs.Numbers.{sizeOf, termsOf}
 
 -- a preparer that does not turn back leaves its lists
 left : (answer : Prepared) (written before after : List ℕ) → answer ≡ Done → after ≡ leaves answer written before → after ≡ written

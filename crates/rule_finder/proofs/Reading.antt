@@ -28,7 +28,8 @@ use Rattle.sheet_head.specs.Head.{cellsOf, termsBad}
 use Rattle.sheet_cells.specs.Cells.{bitsOf, valueOf, codeOf, valuesOf, codesOf, codeBad}
 use Rattle.sheet_bytes.specs.Laws as read
 use Rattle.sheet_bytes.proofs.Stages.{rows-inside, columns-inside, labels-inside, small-accepted, valued-accepted}
-use Rattle.rule_finder.specs.Run.{termsOf, wordsLent, sheetRead, Prepares}
+use Rattle.head_numbers.specs.Numbers.{termsOf}
+use Rattle.rule_finder.specs.Run.{wordsLent, sheetRead, Prepares}
 
 -- a table of doubles has doubles throughout, and a NaN past its end
 all-fit : (f : ℕ → Float) (n : ℕ) → ((k : ℕ) → T (fits binary64 (f k))) → (i : ℕ) → T (fits binary64 (getD (table f n) i nan))

@@ -14,7 +14,8 @@ use Rattle.sheet_head.specs.declared.Head.{Head}
 use Rattle.sheet_bytes.specs.declared.Read.the-variants.{Refused, Sheet}
 use Rattle.sheet_bytes.specs.Read.{readOf}
 use Rattle.sheet_room.specs.Room.{largestSheet}
-use Rattle.rule_finder.specs.Run.{termsOf, wordsLent, sheetRead, runOf}
+use Rattle.head_numbers.specs.Numbers.{termsOf}
+use Rattle.rule_finder.specs.Run.{wordsLent, sheetRead, runOf}
 
 -- "Order: 20, 1, 21, 22, 23, 4, 5, 6.": these are the reader's, and a sheet that is read is never turned back
 abbrev pub NeverTurnedBack : Type 0

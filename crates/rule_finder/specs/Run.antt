@@ -7,8 +7,6 @@ use lib.ListN.{length}
 use lib.Ieee.{Float}
 use Rattle.sheet.specs.Limits.{wordsPerRow}
 use Rattle.sheet.specs.Sheet.{Sheet}
-use Rattle.sheet.specs.declared.Size.{Size}
-use Rattle.sheet.specs.declared.Terms.{Terms}
 use Rattle.tree.specs.declared.Answer.{Answer}
 use Rattle.tree.specs.declared.Answer.the-variants.{TurnedBack}
 use Rattle.depth2.specs.Search.{searchOf}
@@ -16,19 +14,13 @@ use Rattle.prepare.specs.declared.Prepared.the-variants.{Done}
 use Rattle.prepare.specs.Prepared.{answerOf}
 use Rattle.prepare.specs.Laws.{preparedSheet}
 use Rattle.sheet_head.specs.declared.Head.{Head}
+use Rattle.head_numbers.specs.Numbers.{termsOf}
 use Rattle.sheet_bytes.specs.declared.Read.{Read}
 use Rattle.sheet_bytes.specs.declared.Read.the-variants as read
 use Rattle.sheet_room.specs.Room.{mostRead}
 use Rattle.sheet_head.specs.Head.{Small, cellsOf}
 use Rattle.sheet_cells.specs.Cells.{valuesOf, codesOf}
 use Rattle.sheet_bytes.specs.Read.{readOf}
-
--- the header's numbers, as those of a sheet and of a search
-abbrev pub sizeOf : Head → Size
-sizeOf h = record { rows = h .rows; columns = h .columns; labels = h .labels }
-
-abbrev pub termsOf : Head → Terms
-termsOf h = record { support = h .support; gap = h .gap; error = h .error; bound = h .bound }
 
 -- "Scratch has at least 8 u32 words per row.": enough for the largest sheet, whatever the sheet
 abbrev pub wordsLent : ℕ

@@ -6,10 +6,11 @@ ghost use Rattle.prepare.specs.Prepared.{answerOf};
 ghost use Rattle.prepare.specs.Laws.{preparedSheet};
 ghost use Rattle.depth2.specs.Search.{searchOf};
 ghost use Rattle.listing.specs.Listing.{writtenOf, outOf};
-ghost use Rattle.rule_finder.specs.Run.{sizeOf, termsOf, wordsLent, runOf, Prepares};
+ghost use Rattle.head_numbers.specs.Numbers.{termsOf};
+ghost use Rattle.rule_finder.specs.Run.{wordsLent, runOf, Prepares};
+use head_numbers::size_of;
+use head_numbers::terms_of;
 use sheet::MOST_COLUMNS;
-use sheet::Size;
-use sheet::Terms;
 use sheet_bytes::Read;
 use sheet_head::Head;
 use sheet_room::MOST_CELLS;
@@ -18,27 +19,6 @@ use tree::Answer;
 
 // Scratch for the largest sheet: eight words for each row.
 const WORDS_LENT: usize = 16384;
-
-fn size_of(head: Head) -> Size
-    ensures { λ r. ⌜ r ≡ sizeOf head ⌝ }
-{
-    Size {
-        rows: head.rows,
-        columns: head.columns,
-        labels: head.labels,
-    }
-}
-
-fn terms_of(head: Head) -> Terms
-    ensures { λ r. ⌜ r ≡ termsOf head ⌝ }
-{
-    Terms {
-        support: head.support,
-        gap: head.gap,
-        error: head.error,
-        bound: head.bound,
-    }
-}
 
 // The preparer's answer is not asked: it turns back no sheet that was read.
 fn prepare_and_search(
