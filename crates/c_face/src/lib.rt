@@ -112,7 +112,7 @@ pub extern "C" fn finder_check(
 {
     let size = size_in(numbers);
     let terms = terms_in(numbers);
-    let checked = sheet::check(size, terms, values, codes, order, cuts, counts, scratch);
+    let checked = sheet_check::check(size, terms, values, codes, order, cuts, counts, scratch);
     c_words::tell_checked(answer, checked);
 }
 

@@ -125,7 +125,7 @@ pub fn scan_cut(
     ensures answer { λ r. ⌜ r ≡ scannedOf (sheetOf size (now (values .entry)) (now (codes .entry)) (now (order .entry)) (now (cuts .entry)) (now (counts .entry))) terms column cut (length (now (scratch .entry))) ⌝ }
     ensures lent { λ _. ⌜ now (scratch .exit) ≡ scratchAfter (checkOf (sheetOf size (now (values .entry)) (now (codes .entry)) (now (order .entry)) (now (cuts .entry)) (now (counts .entry))) terms (length (now (scratch .entry)))) (size .rows) (now (scratch .entry)) ⌝ }
 {
-    let checked = sheet::check(size, terms, values, codes, order, cuts, counts, scratch);
+    let checked = sheet_check::check(size, terms, values, codes, order, cuts, counts, scratch);
     match checked {
         Checked::Refused(number, place) => Scanned::TurnedBack { number, place },
         Checked::Accepted => {

@@ -93,7 +93,7 @@ pub fn search(
     ensures answer { λ r. ⌜ r ≡ searchOf (sheetOf size (now (values .entry)) (now (codes .entry)) (now (order .entry)) (now (cuts .entry)) (now (counts .entry))) terms (length (now (scratch .entry))) ⌝ }
     ensures lent { λ _. ⌜ now (scratch .exit) ≡ scratchOf (sheetOf size (now (values .entry)) (now (codes .entry)) (now (order .entry)) (now (cuts .entry)) (now (counts .entry))) terms (now (scratch .entry)) ⌝ }
 {
-    let checked = sheet::check(size, terms, values, codes, order, cuts, counts, scratch);
+    let checked = sheet_check::check(size, terms, values, codes, order, cuts, counts, scratch);
     match checked {
         Checked::Refused(number, place) => Answer::TurnedBack { number, place },
         Checked::Accepted => {

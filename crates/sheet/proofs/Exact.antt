@@ -23,7 +23,7 @@ use Rattle.sheet.specs.Check.{cellsOf, between, sizeHolds, lengthsHold, 
 use Rattle.sheet.specs.Laws.{Lengths, conditionsOf, Condition, First, GivenExactly, AcceptedExactly, TermAbove, ValueOutside, LabelHigh, OrderWrong, ValueFalls, CutsWrong}
 use Rattle.sheet.proofs.Search.{clean-walk, walk-bad, untruth}
 use Rattle.sheet.proofs.Index.{column-in, at-column}
-use Rattle.sheet.proofs.Marks.{met-yes, met-where}
+use Rattle.sheet.proofs.MetBefore.{met-yes, met-where}
 use Rattle.sheet.proofs.Lists.{same-refl, same-no}
 use Rattle.sheet.proofs.CutsExact.{listed-cuts, cuts-listed}
 use Rattle.sheet.proofs.Answer.{limited, measured-lists, rest2, rest3, rest4, rest6, rest7, rest8, rest9}

@@ -1,7 +1,7 @@
 -- Laws of the input check, for every crate to cite.
 pub mod Search
 pub mod Index
-pub mod Marks
+pub mod MetBefore
 pub mod Values
 pub mod Lists
 pub mod CutList

@@ -113,7 +113,7 @@ fn checked(
     let u = upto(lent.cuts, cuts.len());
     let n = upto(lent.counts, counts.len());
     let w = upto(lent.words, scratch.len());
-    sheet::check(
+    sheet_check::check(
         size,
         terms,
         &values[..v],

@@ -1,0 +1,2 @@
+-- What is listed so far, for the functions here.
+mod Matched

@@ -1,0 +1,2 @@
+-- What the marks say, for the functions here.
+mod Marks

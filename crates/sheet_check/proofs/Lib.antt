@@ -1,0 +1,2 @@
+-- The answer as the code finds it, for the functions here.
+mod Found
