@@ -1,0 +1,2 @@
+-- How long a side's line may be.
+pub mod Room
