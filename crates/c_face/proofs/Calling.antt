@@ -1,5 +1,4 @@
--- The numbers that a call hands over, read one by one, make the sizes and terms that the definitions name, and what is answered for the one is
--- answered for the other. Assumes nothing.
+-- What is answered for the sizes and terms that are read from a call is answered for those that the definitions name. Assumes nothing.
 use mathlib.Core.Path.{_≡_, ap, _∙_, subst}
 use Prim.Native.Nat.{ℕ}
 use mathlib.Core.List.{List}
@@ -12,20 +11,6 @@ use Rattle.sheet.specs.Sheet.{Sheet}
 use Rattle.sheet.specs.Check.{sheetOf, checkOf, scratchAfter}
 use Rattle.prepare.specs.declared.Prepared.{Prepared}
 use Rattle.prepare.specs.Prepared.{answerOf, PreparedOf}
-
-abbrev sizeWith : ℕ → ℕ → ℕ → Size
-sizeWith rows columns labels = record { rows = rows; columns = columns; labels = labels }
-
-pub same-size : {a a′ b b′ c c′ : ℕ} → a ≡ a′ → b ≡ b′ → c ≡ c′ → sizeWith a b c ≡ sizeWith a′ b′ c′
-same-size {a} {a′} {b} {b′} {c} {c′} e f g =
-    ap (λ (n : ℕ). sizeWith n b c) e ∙ ap (λ (n : ℕ). sizeWith a′ n c) f ∙ ap (λ (n : ℕ). sizeWith a′ b′ n) g
-
-abbrev termsWith : ℕ → ℕ → ℕ → ℕ → Terms
-termsWith support gap error bound = record { support = support; gap = gap; error = error; bound = bound }
-
-pub same-terms : {a a′ b b′ c c′ d d′ : ℕ} → a ≡ a′ → b ≡ b′ → c ≡ c′ → d ≡ d′ → termsWith a b c d ≡ termsWith a′ b′ c′ d′
-same-terms {a} {a′} {b} {b′} {c} {c′} {d} {d′} e f g h =
-    ap (λ (n : ℕ). termsWith n b c d) e ∙ ap (λ (n : ℕ). termsWith a′ n c d) f ∙ ap (λ (n : ℕ). termsWith a′ b′ n d) g ∙ ap (λ (n : ℕ). termsWith a′ b′ c′ n) h
 
 pub same-check : {size size′ : Size} {terms terms′ : Terms} (values : List Float) (codes order cuts counts : List ℕ) (words : ℕ)
     → size ≡ size′ → terms ≡ terms′

@@ -1,9 +1,8 @@
--- The numbers that a call from C hands over, and what is answered for them. Definitions only.
+-- What is answered for the numbers that a call from C hands over. Definitions only.
 use Prim.Native.Nat.{ℕ}
 use mathlib.Core.List.{List}
 use lib.ListN.{length, getD}
 use lib.Ieee.{Float}
-use Rattle.sheet.specs.declared.Size.{Size}
 use Rattle.sheet.specs.declared.Terms.{Terms}
 use Rattle.sheet.specs.declared.Checked.{Checked}
 use Rattle.sheet.specs.Sheet.{Sheet}
@@ -14,16 +13,7 @@ use Rattle.tree.specs.declared.Answer.{Answer}
 use Rattle.depth2.specs.Search.{searchOf}
 use Rattle.cut_scan.specs.declared.Scanned.{Scanned}
 use Rattle.cut_scan.specs.CutScan.{scannedOf}
-
--- ---- the call's numbers; one that is not there counts as 0
-
--- rows, columns, labels
-abbrev pub sizeIn : List ℕ → Size
-sizeIn numbers = record { rows = getD numbers 0 0; columns = getD numbers 1 0; labels = getD numbers 2 0 }
-
--- support, gap, error, bound
-abbrev pub termsIn : List ℕ → Terms
-termsIn numbers = record { support = getD numbers 3 0; gap = getD numbers 4 0; error = getD numbers 5 0; bound = getD numbers 6 0 }
+use Rattle.c_numbers.specs.Numbers.{sizeIn, termsIn}
 
 -- the sheet that a call hands over
 abbrev pub sheetIn : List ℕ → List Float → List ℕ → List ℕ → List ℕ → List ℕ → Sheet

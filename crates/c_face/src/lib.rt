@@ -4,49 +4,24 @@ ghost use lib.ListN.{length, getD};
 ghost use Rattle.prepare.specs.Prepared.{PreparedOf};
 ghost use Rattle.sheet.specs.Check.{scratchAfter};
 ghost use Rattle.depth2.specs.Search.{scratchOf};
-ghost use Rattle.c_words.specs.Told.{written, preparedTold, checkedTold};
-ghost use Rattle.c_words.specs.Rule.{searchWords, scanWords};
-ghost use Rattle.c_face.specs.Face.{sizeIn, termsIn, sheetIn, prepareAnswer, checkAnswer, searchAnswer, scanAnswer};
-use sheet::Size;
-use sheet::Terms;
+ghost use Rattle.c_numbers.specs.Numbers.{termsIn};
+ghost use Rattle.c_told.specs.Told.{written, preparedTold, checkedTold};
+ghost use Rattle.c_words.specs.Rule.{searchWords};
+ghost use Rattle.c_scan_words.specs.Scan.{scanWords};
+ghost use Rattle.c_face.specs.Face.{sheetIn, prepareAnswer, checkAnswer, searchAnswer, scanAnswer};
+use c_numbers::COLUMNS;
+use c_numbers::ROWS;
+use c_numbers::number;
+use c_numbers::size_in;
+use c_numbers::size_number;
+use c_numbers::terms_in;
 
-// A call's numbers, in their order; `COLUMN`, `CUT` and `TIMES` are those of `finder_scan` alone.
-const ROWS: usize = 0;
-
-const COLUMNS: usize = 1;
-
-const LABELS: usize = 2;
-
-const SUPPORT: usize = 3;
-
-const GAP: usize = 4;
-
-const ERROR: usize = 5;
-
-const BOUND: usize = 6;
-
+// Past a call's seven numbers, in their order: those of `finder_scan` alone.
 const COLUMN: usize = 7;
 
 const CUT: usize = 8;
 
 const TIMES: usize = 9;
-
-// A number of the call; 0 if it is not there.
-fn number(numbers: &[u32], at: usize) -> u32
-    ensures { λ r. ⌜ r ≡ getD (now (numbers .entry)) at 0 ⌝ }
-{
-    if at < numbers.len() {
-        return numbers[at];
-    }
-    0
-}
-
-fn size_number(numbers: &[u32], at: usize) -> usize
-    ensures { λ r. ⌜ r ≡ getD (now (numbers .entry)) at 0 ⌝ }
-{
-    let n = number(numbers, at);
-    n as usize
-}
 
 // The preparer. Numbers: rows, columns.
 #[no_mangle]
@@ -64,35 +39,7 @@ pub extern "C" fn finder_prepare(
     let rows = size_number(numbers, ROWS);
     let columns = size_number(numbers, COLUMNS);
     let done = prepare::prepare(rows, columns, values, order, cuts, counts);
-    c_words::tell_prepared(answer, done);
-}
-
-fn size_in(numbers: &[u32]) -> Size
-    ensures { λ r. ⌜ r ≡ sizeIn (now (numbers .entry)) ⌝ }
-{
-    let rows = size_number(numbers, ROWS);
-    let columns = size_number(numbers, COLUMNS);
-    let labels = size_number(numbers, LABELS);
-    Size {
-        rows,
-        columns,
-        labels,
-    }
-}
-
-fn terms_in(numbers: &[u32]) -> Terms
-    ensures { λ r. ⌜ r ≡ termsIn (now (numbers .entry)) ⌝ }
-{
-    let support = number(numbers, SUPPORT);
-    let gap = number(numbers, GAP);
-    let error = number(numbers, ERROR);
-    let bound = number(numbers, BOUND);
-    Terms {
-        support,
-        gap,
-        error,
-        bound,
-    }
+    c_told::tell_prepared(answer, done);
 }
 
 // The input check. Numbers: rows, columns, labels, support, gap, error, bound.
@@ -113,7 +60,7 @@ pub extern "C" fn finder_check(
     let size = size_in(numbers);
     let terms = terms_in(numbers);
     let checked = sheet_check::check(size, terms, values, codes, order, cuts, counts, scratch);
-    c_words::tell_checked(answer, checked);
+    c_told::tell_checked(answer, checked);
 }
 
 // The search. Numbers: rows, columns, labels, support, gap, error, bound.
@@ -170,5 +117,5 @@ pub extern "C" fn finder_scan(
         times,
         scratch,
     );
-    c_words::tell_scanned(answer, scanned);
+    c_scan_words::tell_scanned(answer, scanned);
 }

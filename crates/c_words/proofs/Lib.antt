@@ -1,3 +1,2 @@
--- Laws of the answer's words.
-pub mod Telling
+-- Laws of the words of a search's answer.
 pub mod Words

@@ -1,24 +1,15 @@
--- The words of an answer, case by case, and how they come into the lent ones. Assumes nothing.
+-- The words of a search's answer, case by case. Assumes nothing.
 use mathlib.Core.Path.{_≡_, refl, sym, ap, _∙_}
-use Prim.Native.Nat.{ℕ, suc, _+_, _≤_, _<_}
-use native.Mathlib.Nat.{zero-add}
-use native.Mathlib.Omega.{arith}
+use Prim.Native.Nat.{ℕ}
 use mathlib.Core.List.{List, [], _∷_, _++_}
-use lib.ListN.{length, getD, drop, set, replicate}
-use lib.Seq.{paste, paste-suc, take-length}
-use lib.Dec.{le→leb}
+use lib.ListN.{getD, set, replicate}
 use lib.Ieee.{Float, binary64, toBits}
-use Rattle.basics.proofs.Choice.{pick-true, pick-false, nleb}
 use Rattle.tree.specs.declared.Side.{Side}
 use Rattle.tree.specs.declared.Side.the-variants.{Leaf, Split}
 use Rattle.tree.specs.declared.Tree.{Tree}
 use Rattle.tree.specs.declared.Answer.{Answer}
 use Rattle.tree.specs.declared.Answer.the-variants.{TurnedBack, Kept, Found}
-use Rattle.leaves_score.specs.declared.Sides.{Sides}
-use Rattle.cut_scan.specs.declared.Scanned.{Scanned}
-use Rattle.cut_scan.specs.declared.Scanned.the-variants as scanned
-use Rattle.c_words.specs.Told.{written}
-use Rattle.c_words.specs.Rule.{sideWords, foundWords, shortWords, searchWords, bothWords, scanWords}
+use Rattle.c_words.specs.Rule.{sideWords, foundWords, shortWords, searchWords}
 
 -- ---- a side
 
@@ -34,7 +25,7 @@ split-words side column threshold left right lost missed bits e f =
     ap (λ (b : ℕ). 1 ∷ column ∷ b ∷ left ∷ right ∷ lost ∷ missed ∷ []) f ∙ ap sideWords (sym e)
 
 -- the first seven of a list, before others
-abbrev seven : List ℕ → List ℕ → List ℕ
+abbrev pub seven : List ℕ → List ℕ → List ℕ
 seven l rest = getD l 0 0 ∷ getD l 1 0 ∷ getD l 2 0 ∷ getD l 3 0 ∷ getD l 4 0 ∷ getD l 5 0 ∷ getD l 6 0 ∷ rest
 
 seven-words : (side : Side) (rest : List ℕ) → seven (sideWords side) rest ≡ sideWords side ++ rest
@@ -82,43 +73,3 @@ pub rule-words : (answer : Answer) (tree : Tree) (tried : ℕ) (words : List ℕ
     → words ≡ searchWords answer
 unfolding searchWords
 rule-words answer tree tried words e f = f ∙ ap searchWords (sym e)
-
--- ---- a scan
-
-pub sides-words : (sides : Sides) (l r : List ℕ) → l ≡ sideWords (sides .left) → r ≡ sideWords (sides .right) → 1 ∷ seven l (seven r []) ≡ bothWords sides
-unfolding bothWords
-sides-words sides l r e f = ap (λ (k : List ℕ). 1 ∷ k) (both-words (sides .left) (sides .right) l r e f)
-
-pub unscanned-words : (scan : Scanned) (number place : ℕ) → scan ≡ scanned.TurnedBack number place
-    → set (set (set (replicate 15 0) 0 0) 1 number) 2 place ≡ scanWords scan
-unfolding scanWords
-unscanned-words scan number place e = ap scanWords (sym e)
-
-pub scanned-words : (scan : Scanned) (sides : Sides) (words : List ℕ) → scan ≡ scanned.Done sides → words ≡ bothWords sides → words ≡ scanWords scan
-unfolding scanWords
-scanned-words scan sides words e f = f ∙ ap scanWords (sym e)
-
--- ---- the words in the lent answer
-
-pub left-alone : (words answer : List ℕ) → length answer < length words → answer ≡ written words answer
-unfolding written
-left-alone words answer h = sym (pick-false _ _ _ (nleb (length words) (length answer) h))
-
--- one word more is copied
-pub next-word : (words answer : List ℕ) (at : ℕ) → at < length words → length words ≤ length answer
-    → set (paste answer 0 words at) at (getD words at 0) ≡ paste answer 0 words (at + 1)
-next-word words answer at h room =
-    let one : suc at ≡ at + 1 = omega arith in
-    ap (λ (i : ℕ). set (paste answer 0 words at) i (getD words at 0)) (sym (zero-add at))
-    ∙ paste-suc answer 0 words at 0 (omega arith) h
-    ∙ ap (λ (n : ℕ). paste answer 0 words n) one
-
-pub all-written : (words answer now : List ℕ) (at : ℕ) → length words ≤ length answer → at ≡ length words → now ≡ paste answer 0 words at
-    → now ≡ written words answer
-unfolding written
-all-written words answer now at h e f =
-    f
-    ∙ ap (λ (n : ℕ). paste answer 0 words n) e
-    ∙ ap (λ (k : List ℕ). k ++ drop (0 + length words) answer) (take-length words)
-    ∙ ap (λ (n : ℕ). words ++ drop n answer) (zero-add (length words))
-    ∙ sym (pick-true _ _ _ (le→leb (length words) (length answer) h))

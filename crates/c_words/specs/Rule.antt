@@ -1,4 +1,4 @@
--- The words that a search and a scan of one cut answer. Definitions only.
+-- The words that a search answers. Definitions only.
 use Prim.Native.Nat.{ℕ}
 use mathlib.Core.List.{List, [], _∷_, _++_}
 use lib.ListN.{replicate}
@@ -8,9 +8,6 @@ use Rattle.tree.specs.declared.Side.the-variants.{Leaf, Split}
 use Rattle.tree.specs.declared.Tree.{Tree}
 use Rattle.tree.specs.declared.Answer.{Answer}
 use Rattle.tree.specs.declared.Answer.the-variants.{TurnedBack, Kept, Found}
-use Rattle.leaves_score.specs.declared.Sides.{Sides}
-use Rattle.cut_scan.specs.declared.Scanned.{Scanned}
-use Rattle.cut_scan.specs.declared.Scanned.the-variants as scanned
 
 -- "A side is a leaf (label, error) or a split (column, threshold, two labels, two errors)": seven words, 0 where a leaf says nothing
 unfoldable pub sideWords : Side → List ℕ
@@ -32,14 +29,3 @@ unfoldable pub searchWords : Answer → List ℕ
 searchWords (TurnedBack number place) = shortWords 0 number place
 searchWords (Kept error tried) = shortWords 1 error tried
 searchWords (Found tree tried) = foundWords tree tried
-
--- ---- the scan of one cut
-
--- 1, and the two sides
-unfoldable pub bothWords : Sides → List ℕ
-bothWords sides = 1 ∷ sideWords (sides .left) ++ sideWords (sides .right)
-
--- fifteen words; turned back, the twelve past the reason and its place are 0
-unfoldable pub scanWords : Scanned → List ℕ
-scanWords (scanned.TurnedBack number place) = 0 ∷ number ∷ place ∷ replicate 12 0
-scanWords (scanned.Done sides) = bothWords sides

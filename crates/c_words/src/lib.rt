@@ -1,83 +1,11 @@
-// The words that a C caller gets back: each answer in lent words, which may be of any number.
+// The words that a C caller gets back from a search, and those of one side.
 ghost use mathlib.Core.Path.{_≡_};
-ghost use Rattle.c_words.specs.Told.{written, told, preparedTold, checkedTold};
-ghost use Rattle.c_words.specs.Rule.{sideWords, foundWords, shortWords, searchWords, bothWords, scanWords};
-use cut_scan::Scanned;
-use leaves_score::Sides;
-use prepare::Prepared;
-use sheet::Checked;
+ghost use Rattle.c_told.specs.Told.{written};
+ghost use Rattle.c_words.specs.Rule.{sideWords, foundWords, shortWords, searchWords};
+use c_told::TURNED_BACK;
 use tree::Answer;
 use tree::Side;
 use tree::Tree;
-
-// The words that the check and the preparer answer.
-const TOLD_WORDS: usize = 3;
-
-// What the first word of an answer says.
-const TURNED_BACK: u64 = 0;
-
-const TAKEN: u64 = 1;
-
-fn wide(x: u32) -> u64
-    ensures { λ r. ⌜ r ≡ x ⌝ }
-{
-    x as u64
-}
-
-fn word(x: usize) -> u64
-    ensures { λ r. ⌜ r ≡ x ⌝ }
-{
-    x as u64
-}
-
-// The words at the start of the answer; one too short for them is left alone.
-fn write(answer: &mut [u64], words: &[u64])
-    ensures { λ _. ⌜ now (answer .exit) ≡ written (now (words .entry)) (now (answer .entry)) ⌝ }
-{
-    if answer.len() < words.len() {
-        return;
-    }
-    let mut at: usize = 0;
-    while at < words.len() {
-        answer[at] = words[at];
-        at += 1;
-    }
-}
-
-fn tell(answer: &mut [u64], kind: u64, reason: u64, place: u64)
-    ensures { λ _. ⌜ now (answer .exit) ≡ told kind reason place (now (answer .entry)) ⌝ }
-{
-    let words: [u64; TOLD_WORDS] = [kind, reason, place];
-    write(answer, &words);
-}
-
-pub fn tell_prepared(answer: &mut [u64], done: Prepared)
-    ensures { λ _. ⌜ now (answer .exit) ≡ preparedTold done (now (answer .entry)) ⌝ }
-{
-    match done {
-        Prepared::Done => {
-            tell(answer, TAKEN, 0, 0);
-        }
-        Prepared::Refused { number, place } => {
-            tell(answer, TURNED_BACK, wide(number), word(place));
-        }
-    }
-}
-
-pub fn tell_checked(answer: &mut [u64], checked: Checked)
-    ensures { λ _. ⌜ now (answer .exit) ≡ checkedTold checked (now (answer .entry)) ⌝ }
-{
-    match checked {
-        Checked::Accepted => {
-            tell(answer, TAKEN, 0, 0);
-        }
-        Checked::Refused(number, place) => {
-            tell(answer, TURNED_BACK, wide(number), word(place));
-        }
-    }
-}
-
-// ---- the search
 
 // The words of a side, and of a search's answer.
 const SIDE_WORDS: usize = 7;
@@ -94,7 +22,7 @@ const KEPT: u64 = 1;
 
 const FOUND: u64 = 2;
 
-fn side_words(side: Side) -> [u64; SIDE_WORDS]
+pub fn side_words(side: Side) -> [u64; SIDE_WORDS]
     ensures { λ r. ⌜ r ≡ sideWords side ⌝ }
 {
     match side {
@@ -187,61 +115,5 @@ pub fn tell_searched(answer: &mut [u64], found: Answer)
     ensures { λ _. ⌜ now (answer .exit) ≡ written (searchWords found) (now (answer .entry)) ⌝ }
 {
     let words = search_words(found);
-    write(answer, &words);
-}
-
-// ---- the scan of one cut
-
-const SCAN_WORDS: usize = 15;
-
-// What the first word of a scan's answer says, where it is not turned back.
-const SCANNED: u64 = 1;
-
-fn sides_words(sides: Sides) -> [u64; SCAN_WORDS]
-    ensures { λ r. ⌜ r ≡ bothWords sides ⌝ }
-{
-    let left = sides.left;
-    let right = sides.right;
-    let l = side_words(left);
-    let r = side_words(right);
-    [
-        SCANNED,
-        l[0],
-        l[1],
-        l[2],
-        l[3],
-        l[4],
-        l[5],
-        l[6],
-        r[0],
-        r[1],
-        r[2],
-        r[3],
-        r[4],
-        r[5],
-        r[6],
-    ]
-}
-
-fn scan_words(scanned: Scanned) -> [u64; SCAN_WORDS]
-    ensures { λ r. ⌜ r ≡ scanWords scanned ⌝ }
-{
-    match scanned {
-        Scanned::TurnedBack { number, place } => {
-            let reason = number as u64;
-            let mut words: [u64; SCAN_WORDS] = [0; SCAN_WORDS];
-            words[0] = TURNED_BACK;
-            words[1] = reason;
-            words[2] = place as u64;
-            words
-        }
-        Scanned::Done(sides) => sides_words(sides),
-    }
-}
-
-pub fn tell_scanned(answer: &mut [u64], scanned: Scanned)
-    ensures { λ _. ⌜ now (answer .exit) ≡ written (scanWords scanned) (now (answer .entry)) ⌝ }
-{
-    let words = scan_words(scanned);
-    write(answer, &words);
+    c_told::write(answer, &words);
 }

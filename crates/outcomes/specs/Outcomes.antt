@@ -42,9 +42,11 @@ use Rattle.listing.specs.Listing.{writtenOf, outOf}
 use Rattle.cut_scan.specs.declared.Scanned.{Scanned}
 use Rattle.cut_scan.specs.CutScan.{scannedOf}
 use Rattle.rule_finder.specs.Laws as finder
-use Rattle.c_words.specs.Told.{written, preparedTold, checkedTold}
-use Rattle.c_words.specs.Rule.{searchWords, scanWords}
-use Rattle.c_face.specs.Face.{sheetIn, termsIn, prepareAnswer, checkAnswer, searchAnswer, scanAnswer}
+use Rattle.c_numbers.specs.Numbers.{termsIn}
+use Rattle.c_told.specs.Told.{written, preparedTold, checkedTold}
+use Rattle.c_words.specs.Rule.{searchWords}
+use Rattle.c_scan_words.specs.Scan.{scanWords}
+use Rattle.c_face.specs.Face.{sheetIn, prepareAnswer, checkAnswer, searchAnswer, scanAnswer}
 
 -- two outcomes that are what an equation says
 abbrev pub One : (A : Type 0) → A → Type 0

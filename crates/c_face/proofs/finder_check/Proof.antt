@@ -3,7 +3,7 @@ use mathlib.Core.Path.{ap, _∙_}
 use lib.ListN.{length}
 use Rattle.sheet.specs.declared.Size.{Size}
 use Rattle.sheet.specs.declared.Checked.{Checked}
-use Rattle.c_words.specs.Told.{checkedTold}
+use Rattle.c_told.specs.Told.{checkedTold}
 use Rattle.c_face.proofs.Calling.{same-check, same-scratch}
 use borrow.Author.Needs.{needs}
 use Rattle.c_face.proofs.finder_check.Statement.{statement}

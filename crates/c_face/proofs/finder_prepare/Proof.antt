@@ -1,7 +1,7 @@
 -- `c_face::finder_prepare` meets its contract: it tells what the preparer answers for the numbers read. Assumes nothing.
 use mathlib.Core.Path.{ap, _∙_}
 use Rattle.prepare.specs.declared.Prepared.{Prepared}
-use Rattle.c_words.specs.Told.{preparedTold}
+use Rattle.c_told.specs.Told.{preparedTold}
 use Rattle.c_face.proofs.Calling.{prepared-by, same-prepared}
 use borrow.Author.Needs.{needs}
 use Rattle.c_face.proofs.finder_prepare.Statement.{statement}

@@ -7,9 +7,10 @@ use Rattle.sheet.specs.Sheet.{Sheet}
 use Rattle.depth2.specs.Search.{scratchOf}
 use Rattle.cut_scan.specs.declared.Scanned.{Scanned}
 use Rattle.cut_scan.specs.CutScan.{scannedOf}
-use Rattle.c_words.specs.Told.{written}
-use Rattle.c_words.specs.Rule.{scanWords}
-use Rattle.c_face.specs.Face.{sheetIn, termsIn}
+use Rattle.c_told.specs.Told.{written}
+use Rattle.c_scan_words.specs.Scan.{scanWords}
+use Rattle.c_numbers.specs.Numbers.{termsIn}
+use Rattle.c_face.specs.Face.{sheetIn}
 use Rattle.c_face.proofs.Calling.{same-asked}
 use borrow.Author.Needs.{needs}
 use Rattle.c_face.proofs.finder_scan.Statement.{statement}

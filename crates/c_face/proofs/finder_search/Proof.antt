@@ -5,7 +5,7 @@ use Rattle.sheet.specs.declared.Terms.{Terms}
 use Rattle.sheet.specs.Sheet.{Sheet}
 use Rattle.tree.specs.declared.Answer.{Answer}
 use Rattle.depth2.specs.Search.{searchOf, scratchOf}
-use Rattle.c_words.specs.Told.{written}
+use Rattle.c_told.specs.Told.{written}
 use Rattle.c_words.specs.Rule.{searchWords}
 use Rattle.c_face.proofs.Calling.{same-asked}
 use borrow.Author.Needs.{needs}

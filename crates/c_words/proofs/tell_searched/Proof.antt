@@ -2,7 +2,7 @@
 use mathlib.Core.Path.{ap, _∙_}
 use Prim.Native.Nat.{ℕ}
 use mathlib.Core.List.{List}
-use Rattle.c_words.specs.Told.{written}
+use Rattle.c_told.specs.Told.{written}
 use borrow.Author.Needs.{needs}
 use Rattle.c_words.proofs.tell_searched.Statement.{statement}
 use Rattle.c_words.proofs.tell_searched.Tie as tie

@@ -1,9 +1,9 @@
--- `c_words::tell_checked` meets its contract: each case tells its own words. Assumes nothing.
-use Rattle.c_words.proofs.Telling.{checked-accepted, checked-refused, same-told}
+-- `c_told::tell_checked` meets its contract: each case tells its own words. Assumes nothing.
+use Rattle.c_told.proofs.Telling.{checked-accepted, checked-refused, same-told}
 use mathlib.Core.Path.{_∙_}
 use borrow.Author.Needs.{needs}
-use Rattle.c_words.proofs.tell_checked.Statement.{statement}
-use Rattle.c_words.proofs.tell_checked.Tie as tie
+use Rattle.c_told.proofs.tell_checked.Statement.{statement}
+use Rattle.c_told.proofs.tell_checked.Tie as tie
 
 enum-told : tie.Need-enum-told
 enum-told c = search needs

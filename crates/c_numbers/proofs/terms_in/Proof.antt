@@ -1,8 +1,8 @@
--- `c_face::terms_in` meets its contract: its fields are the numbers read. Assumes nothing.
-use Rattle.c_face.proofs.Calling.{same-terms}
+-- `c_numbers::terms_in` meets its contract: its fields are the numbers read. Assumes nothing.
+use Rattle.c_numbers.proofs.Reading.{same-terms}
 use borrow.Author.Needs.{needs}
-use Rattle.c_face.proofs.terms_in.Statement.{statement}
-use Rattle.c_face.proofs.terms_in.Tie as tie
+use Rattle.c_numbers.proofs.terms_in.Statement.{statement}
+use Rattle.c_numbers.proofs.terms_in.Tie as tie
 
 number-requires : tie.Need-number-requires
 number-requires c κs = search needs

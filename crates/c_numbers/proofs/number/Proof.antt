@@ -1,9 +1,9 @@
--- `c_face::number` meets its contract: past the end nothing is read, and the default is 0. Assumes nothing.
+-- `c_numbers::number` meets its contract: past the end nothing is read, and the default is 0. Assumes nothing.
 use mathlib.Core.Path.{sym}
 use lib.ListN.{List·getD-eq-default}
 use borrow.Author.Needs.{needs}
-use Rattle.c_face.proofs.number.Statement.{statement}
-use Rattle.c_face.proofs.number.Tie as tie
+use Rattle.c_numbers.proofs.number.Statement.{statement}
+use Rattle.c_numbers.proofs.number.Tie as tie
 
 mul-result : tie.Need-mul-result
 mul-result c = search needs

@@ -1,8 +1,8 @@
--- `c_words::scan_words` meets its contract: each case has its own words. Assumes nothing.
-use Rattle.c_words.proofs.Words.{unscanned-words, scanned-words}
+-- `c_scan_words::scan_words` meets its contract: each case has its own words. Assumes nothing.
+use Rattle.c_scan_words.proofs.Words.{unscanned-words, scanned-words}
 use borrow.Author.Needs.{needs}
-use Rattle.c_words.proofs.scan_words.Statement.{statement}
-use Rattle.c_words.proofs.scan_words.Tie as tie
+use Rattle.c_scan_words.proofs.scan_words.Statement.{statement}
+use Rattle.c_scan_words.proofs.scan_words.Tie as tie
 
 enum-known-scanned : tie.Need-enum-known-scanned
 enum-known-scanned c = search needs

@@ -1,14 +1,14 @@
--- `c_words::write` meets its contract. The loop's invariant: the first words are copied, and the rest is as it was. Assumes nothing.
+-- `c_told::write` meets its contract. The loop's invariant: the first words are copied, and the rest is as it was. Assumes nothing.
 use mathlib.Core.Path.{_≡_, refl, ap, _∙_}
 use Prim.Native.Nat.{ℕ, _-_, _≤_, _<_}
 use native.Mathlib.Omega.{arith}
 use mathlib.Core.List.{List}
 use lib.ListN.{length, getD, set, length-set}
 use lib.Seq.{paste, paste-zero}
-use Rattle.c_words.proofs.Words.{left-alone, next-word, all-written}
+use Rattle.c_told.proofs.Writing.{left-alone, next-word, all-written}
 use borrow.Author.Needs.{needs}
-use Rattle.c_words.proofs.write.Statement.{statement}
-use Rattle.c_words.proofs.write.Tie as tie
+use Rattle.c_told.proofs.write.Statement.{statement}
+use Rattle.c_told.proofs.write.Tie as tie
 
 abbrev Inv-loop : tie.InvT-loop
 Inv-loop answer₀ words at₀ answer at =

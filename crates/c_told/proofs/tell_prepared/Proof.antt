@@ -1,9 +1,9 @@
--- `c_words::tell_prepared` meets its contract: each case tells its own words. Assumes nothing.
-use Rattle.c_words.proofs.Telling.{prepared-done, prepared-refused, same-told}
+-- `c_told::tell_prepared` meets its contract: each case tells its own words. Assumes nothing.
+use Rattle.c_told.proofs.Telling.{prepared-done, prepared-refused, same-told}
 use mathlib.Core.Path.{_∙_}
 use borrow.Author.Needs.{needs}
-use Rattle.c_words.proofs.tell_prepared.Statement.{statement}
-use Rattle.c_words.proofs.tell_prepared.Tie as tie
+use Rattle.c_told.proofs.tell_prepared.Statement.{statement}
+use Rattle.c_told.proofs.tell_prepared.Tie as tie
 
 enum-told : tie.Need-enum-told
 enum-told c = search needs

@@ -1,8 +1,8 @@
--- `c_words::sides_words` meets its contract: word by word it is the two sides. Assumes nothing.
-use Rattle.c_words.proofs.Words.{sides-words}
+-- `c_scan_words::sides_words` meets its contract: word by word it is the two sides. Assumes nothing.
+use Rattle.c_scan_words.proofs.Words.{sides-words}
 use borrow.Author.Needs.{needs}
-use Rattle.c_words.proofs.sides_words.Statement.{statement}
-use Rattle.c_words.proofs.sides_words.Tie as tie
+use Rattle.c_scan_words.proofs.sides_words.Statement.{statement}
+use Rattle.c_scan_words.proofs.sides_words.Tie as tie
 
 side-words-requires : tie.Need-side-words-requires
 side-words-requires c κs = search needs

@@ -6,7 +6,7 @@ use Rattle.sheet.specs.declared.Checked.{Checked}
 use Rattle.sheet.specs.declared.Checked.the-variants as checked
 use Rattle.prepare.specs.declared.Prepared.{Prepared}
 use Rattle.prepare.specs.declared.Prepared.the-variants as prepared
-use Rattle.c_words.specs.Told.{turnedBack, taken, told, preparedTold, checkedTold}
+use Rattle.c_told.specs.Told.{turnedBack, taken, told, preparedTold, checkedTold}
 
 pub prepared-done : (r : Prepared) → r ≡ prepared.Done → (now xs : List ℕ) → now ≡ told taken 0 0 xs → now ≡ preparedTold r xs
 unfolding preparedTold

@@ -1,8 +1,8 @@
--- `c_face::size_in` meets its contract: its fields are the numbers read. Assumes nothing.
-use Rattle.c_face.proofs.Calling.{same-size}
+-- `c_numbers::size_in` meets its contract: its fields are the numbers read. Assumes nothing.
+use Rattle.c_numbers.proofs.Reading.{same-size}
 use borrow.Author.Needs.{needs}
-use Rattle.c_face.proofs.size_in.Statement.{statement}
-use Rattle.c_face.proofs.size_in.Tie as tie
+use Rattle.c_numbers.proofs.size_in.Statement.{statement}
+use Rattle.c_numbers.proofs.size_in.Tie as tie
 
 size-number-requires : tie.Need-size-number-requires
 size-number-requires c κs = search needs

@@ -1,11 +1,11 @@
--- `c_words::tell_scanned` meets its contract: its words are written. Assumes nothing.
+-- `c_scan_words::tell_scanned` meets its contract: its words are written. Assumes nothing.
 use mathlib.Core.Path.{ap, _∙_}
 use Prim.Native.Nat.{ℕ}
 use mathlib.Core.List.{List}
-use Rattle.c_words.specs.Told.{written}
+use Rattle.c_told.specs.Told.{written}
 use borrow.Author.Needs.{needs}
-use Rattle.c_words.proofs.tell_scanned.Statement.{statement}
-use Rattle.c_words.proofs.tell_scanned.Tie as tie
+use Rattle.c_scan_words.proofs.tell_scanned.Statement.{statement}
+use Rattle.c_scan_words.proofs.tell_scanned.Tie as tie
 
 scan-words-requires : tie.Need-scan-words-requires
 scan-words-requires c κs = search needs

@@ -1,0 +1,2 @@
+-- Laws of the call's numbers.
+pub mod Reading

@@ -1,0 +1,2 @@
+-- Laws of the words of a scan's answer.
+pub mod Words

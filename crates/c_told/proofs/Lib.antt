@@ -1,0 +1,3 @@
+-- Laws of what is told.
+pub mod Telling
+pub mod Writing
