@@ -1,6 +1,6 @@
 -- Which answer is given where: each reason's test, with those before it passed. Assumes nothing.
 use mathlib.Core.Path.{_≡_, refl, sym, ap, _∙_}
-use Prim.Native.Nat.{ℕ, _+_, _*_, _≤_, _<_}
+use Prim.Native.Nat.{ℕ, _*_, _≤_, _<_}
 use native.Mathlib.Omega.{arith}
 use native.Mathlib.Nat.{mul-le-mul}
 use mathlib.Core.Bool.{Bool, true, false, not, _&&_}
@@ -8,15 +8,16 @@ use mathlib.Core.List.{List}
 use lib.ListN.{length, getD}
 use lib.Dec.{T, leb, ltb, eqb, leb→le, eqb→eq}
 use lib.Ieee.{Float, nan, binary64, fits}
-use borrow.Author.Count.{below-more}
 use borrow.Author.Tests.{eqb-true, ltb-false, le-leb, lt-leb, lt-ltb, le-ltb, eq-eqb, ne-eqb}
 use Rattle.basics.specs.Choice.{pick}
+use Rattle.basics.specs.Walk.{walk}
 use Rattle.basics.proofs.Choice.{and-left, and-right}
 use Rattle.basics.proofs.Walk.{walked, walk-unique}
 use Rattle.order.proofs.Order.{finite-comparable}
 use Rattle.threshold.specs.Threshold.{within}
 use Rattle.threshold.proofs.Law.{within-finite}
 use Rattle.sheet.specs.Limits.{mostRows, mostColumns}
+use Rattle.sheet.specs.Check.{badValue}
 use Rattle.prepare.specs.declared.Prepared.{Prepared}
 use Rattle.prepare.specs.declared.Prepared.the-variants.{Done, Refused}
 use Rattle.prepare.specs.Prepared.{inLimits, exactRoom, firstOutside, answerOf, leaves}
@@ -124,27 +125,16 @@ module _ (values : List Float) where
     pub high : i ≤ length values
     pub before : (j : ℕ) → j < i → T (not (bad j))
 
-  double-not : (b : Bool) → b ≡ true → T (not (not b))
-  double-not b e = rw e tt
-
-  pub passing-none : Passing 0
-  passing-none = record { high = omega arith; before = λ j h. absurd (omega arith) }
-
-  pub passing-more : (i : ℕ) → Passing i → i < length values → within (getD values i nan) ≡ true → Passing (i + 1)
-  passing-more i p h e =
-      record { high = omega arith; before = below-more (λ j. T (not (bad j))) i (p .before) (double-not (within (getD values i nan)) e) }
-
-  stops : (i : ℕ) → Passing i → (i < length values → T (bad i)) → i ≡ firstOutside values
-  unfolding firstOutside
-  stops i p f =
-      sym (walk-unique bad (length values) 0 i
-      (record { low = omega arith; high = omega (arith, p .high); before = λ j l h. p .before j h; found = λ h. f (omega arith) }))
-
-  pub stops-at : (i : ℕ) → Passing i → within (getD values i nan) ≡ false → i ≡ firstOutside values
-  stops-at i p e = stops i p (λ _. rw e tt)
-
   pub stops-nowhere : (i : ℕ) → Passing i → length values ≤ i → i ≡ firstOutside values
-  stops-nowhere i p h = stops i p (λ l. absurd (omega arith))
+  unfolding firstOutside badValue
+  stops-nowhere i p h =
+      sym (walk-unique bad (length values) 0 i
+      (record { low = omega arith; high = omega (arith, p .high); before = λ j l h. p .before j h; found = λ l. absurd (omega arith) }))
+
+  -- the sheet's own walk finds it
+  pub found-outside : (i : ℕ) → i ≡ walk (badValue values) (length values) 0 → i ≡ firstOutside values
+  unfolding firstOutside
+  found-outside i e = e
 
   twice : (b : Bool) → T (not (not b)) → T b
   twice true t = tt
@@ -152,7 +142,7 @@ module _ (values : List Float) where
 
   -- where there is none, every value is within the limit
   pub all-within : length values ≤ firstOutside values → (i : ℕ) → i < length values → T (within (getD values i nan))
-  unfolding firstOutside
+  unfolding firstOutside badValue
   all-within h i l = twice (within (getD values i nan)) (walked bad (length values) 0 .before i (omega arith) (omega arith))
 
 -- ---- the answer

@@ -10,9 +10,9 @@ use lib.Ieee.{Float, nan, lt, eq}
 use Rattle.basics.specs.Choice.{pick}
 use Rattle.basics.specs.Lists.{those}
 use Rattle.basics.specs.Walk.{walk}
-use Rattle.threshold.specs.Threshold.{within}
 use Rattle.sheet.specs.Limits.{mostRows, mostColumns}
 use Rattle.sheet.specs.Reasons.{sizeOutside, lengthWrong, scratchShort, valueOutside}
+use Rattle.sheet.specs.Check.{badValue}
 use Rattle.row_sort.specs.Sorting.{rowsFrom, sorted}
 use Rattle.prepare.specs.declared.Prepared.{Prepared}
 use Rattle.prepare.specs.declared.Prepared.the-variants.{Done, Refused}
@@ -86,7 +86,7 @@ exactRoom cells columns orders cuts counts = eqb orders cells && eqb cuts cells 
 
 -- reason 5: "first index", or the length if every value is within the limit
 unfoldable pub firstOutside : List Float → ℕ
-firstOutside values = walk (λ i. not (within (getD values i nan))) (length values) 0
+firstOutside values = walk (badValue values) (length values) 0
 
 -- "The lowest number wins": the answer for a values list and lists of these lengths
 unfoldable pub answerOf : ℕ → ℕ → List Float → ℕ → ℕ → ℕ → Prepared
