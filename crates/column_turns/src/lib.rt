@@ -346,7 +346,11 @@ pub fn search_column(
     ensures lent { λ _. ⌜ Became (size .rows) (now (scratch .entry)) (now (scratch .exit)) (tableOf (size .rows) (now (scratch .exit))) (ringOf (size .rows) (now (scratch .exit))) ⌝ }
 {
     let places = places_of(size, cuts, counts, column);
-    let run = cuts::support_feasible_splits(places, size.rows, wide_support(terms.support));
+    let run = feasible_cuts::support_feasible_splits(
+        places,
+        size.rows,
+        wide_support(terms.support),
+    );
     if run.end <= run.first {
         return standing;
     }

@@ -4,7 +4,6 @@ ghost use Prim.Native.Nat.{_-_, _^_, _≤_, _<_, max};
 ghost use lib.ListN.{length};
 ghost use Rattle.basics.specs.Walk.{walk};
 ghost use Rattle.cuts.specs.Lookups.{place, Ascending, Sought, above, endOf, lowerBoundOf, upperBoundOf};
-ghost use Rattle.cuts.specs.Feasible.{feasibleOf};
 
 // A run of cut numbers, from `first` up to and without `end`; none where the two are equal.
 pub struct Run {
@@ -33,7 +32,7 @@ pub fn place_at(cuts: &[u16], k: usize) -> usize
 }
 
 // The first cut of those from `low` up to and without `high` that is placed above `value`, `high` if none is: by halving.
-fn first_above(cuts: &[u16], low: usize, high: usize, value: usize) -> usize
+pub fn first_above(cuts: &[u16], low: usize, high: usize, value: usize) -> usize
     requires { ⌜ high ≤ length (now cuts) ⌝ }
     ensures inside { λ r. ⌜ (low ≤ r) × (r ≤ max low high) ⌝ }
     ensures found { λ r. ⌜ (Ascending (now (cuts .entry)) → r ≡ walk (above (now (cuts .entry)) value) (high - low) low) ⌝ }
@@ -110,32 +109,4 @@ pub fn upper_bound(places: &[u16], first: usize, last: usize, value: usize) -> u
     ensures { λ r. ⌜ Sought (now (places .entry)) first last (upperBoundOf (now (places .entry)) first last value) r ⌝ }
 {
     CutReader { places }.upper_bound(first, last, value)
-}
-
-// The fewest rows that a side may hold.
-fn fewest(support: usize) -> usize
-    ensures { λ r. ⌜ r ≡ max support 1 ⌝ }
-{
-    if support < 1 { 1 } else { support }
-}
-
-// The cuts that leave at least `support` rows, and at least one, on each side.
-pub fn support_feasible_splits(cuts: &[u16], rows: usize, support: usize) -> Run
-    ensures inside { λ r. ⌜ (r .first ≤ r .end) × (r .end ≤ length (now (cuts .entry))) ⌝ }
-    ensures found { λ r. ⌜ (Ascending (now (cuts .entry)) → r ≡ feasibleOf (now (cuts .entry)) rows support) ⌝ }
-{
-    let least = fewest(support);
-    // Half of the rows is compared, since twice the support might not fit.
-    if rows / 2 < least {
-        return Run { first: 0, end: 0 };
-    }
-    let short = least - 1;
-    let most = rows - least;
-    let count = cuts.len();
-    let first = first_above(cuts, 0, count, short);
-    let end = first_above(cuts, 0, count, most);
-    if end < first {
-        return Run { first, end: first };
-    }
-    Run { first, end }
 }

@@ -1,16 +1,12 @@
--- `cuts::support_feasible_splits` meets its contract: its two lookups are those of the definition. Assumes nothing.
+-- `feasible_cuts::support_feasible_splits` meets its contract: its two lookups are those of the definition. Assumes nothing.
 use borrow.Author.Needs.{needs}
 use mathlib.Core.Path.{_≡_, ap, _∙_}
 use Prim.Native.Nat.{ℕ, max}
 use native.Mathlib.Omega.{arith}
 use Rattle.cuts.specs.declared.Run.{Run}
 use Rattle.cuts.proofs.Feasible.{run-none, run-some}
-use Rattle.cuts.proofs.support_feasible_splits.Statement.{statement}
-use Rattle.cuts.proofs.support_feasible_splits.Tie as tie
-use Rattle.cuts.proofs.support_feasible_splits.Reads as reads
-use Rattle.cuts.proofs.support_feasible_splits.Lts as lts
-use Rattle.cuts.proofs.fewest.Reads as fewest-reads
-use Rattle.cuts.proofs.first_above.Reads as first-above-reads
+use Rattle.feasible_cuts.proofs.support_feasible_splits.Statement.{statement}
+use Rattle.feasible_cuts.proofs.support_feasible_splits.Tie as tie
 
 abbrev the-run : ℕ → ℕ → Run
 the-run first end = record { first = first; end = end }
