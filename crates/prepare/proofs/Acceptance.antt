@@ -7,9 +7,10 @@ use lib.ListN.{length}
 use lib.Ieee.{Float}
 use Rattle.sheet.specs.Laws.{Lengths}
 use Rattle.sheet.proofs.Good.{sound-accepted}
-use Rattle.prepare.specs.Prepared.{columnOf, orderOf, cutsOf, countOf, orderList, cutList, countList}
+use Rattle.column_lists.specs.Lists.{orderOf, cutsOf, countOf}
+use Rattle.prepare.specs.Prepared.{columnOf, orderList, cutList, countList}
 use Rattle.prepare.specs.Laws.{preparedSheet, Taken, NeverRefused}
-use Rattle.prepare.proofs.Columns.{order-length}
+use Rattle.column_lists.proofs.Columns.{order-length}
 use Rattle.prepare.proofs.Joining.{cuts-length, joined-length}
 use Rattle.prepare.proofs.Answering.{accepted}
 use Rattle.prepare.proofs.Soundness.{sound-sheet}

@@ -12,10 +12,12 @@ use borrow.Rule.Slice.PartMut.{midOf, putMid, post-is, same-len-mid}
 use Rattle.basics.proofs.Choice.{reach}
 use Rattle.basics.proofs.Lists.{length-those, tally-le}
 use Rattle.row_sort.specs.Sorting.{rowsFrom}
-use Rattle.prepare.specs.Prepared.{columnOf, orderOf, isCut, cutsAlong, placesOf, countOf, padded, cutsOf, joined, orderList, cutList, countList}
-use Rattle.prepare.specs.Steps.{Column, Columns}
+use Rattle.column_lists.specs.Lists.{orderOf, isCut, cutsAlong, placesOf, countOf, padded, cutsOf}
+use Rattle.prepare.specs.Prepared.{columnOf, joined, orderList, cutList, countList}
+use Rattle.column_lists.specs.Steps.{Column}
+use Rattle.prepare.specs.Steps.{Columns}
 use Rattle.row_sort.proofs.Rows.{length-rows}
-use Rattle.prepare.proofs.Columns.{order-length}
+use Rattle.column_lists.proofs.Columns.{order-length}
 
 -- ---- lengths
 

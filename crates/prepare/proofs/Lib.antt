@@ -1,6 +1,4 @@
 -- The laws of the sort, for the proofs of the functions and for other crates to cite.
-pub mod Cutting
-pub mod Columns
 pub mod Joining
 pub mod Answering
 pub mod OneOrder

@@ -22,12 +22,13 @@ use Rattle.sheet.specs.Sheet as sheet
 use Rattle.sheet.specs.Sound.{Cuts, Column}
 use Rattle.row_sort.specs.Sorting.{rowsFrom}
 use Rattle.prepare.specs.declared.Prepared.{Prepared}
-use Rattle.prepare.specs.Prepared.{columnOf, orderOf, isCut, cutsAlong, placesOf, countOf, padded, cutsOf, orderList, cutList, countList, leaves}
+use Rattle.column_lists.specs.Lists.{orderOf, isCut, cutsAlong, placesOf, countOf, padded, cutsOf}
+use Rattle.prepare.specs.Prepared.{columnOf, orderList, cutList, countList, leaves}
 use Rattle.row_sort.specs.Steps.{keyIn, Upto, Ascending, Comparable}
 use Rattle.prepare.specs.Laws.{preparedSheet, Taken, SoundColumns, SoundSheet, Determined}
 use Rattle.row_sort.proofs.Sorting.{ascending-sorted}
-use Rattle.prepare.proofs.Columns.{order-keys, order-rows, order-length}
-use Rattle.prepare.proofs.Cutting.{no-cut}
+use Rattle.column_lists.proofs.Columns.{order-keys, order-rows, order-length}
+use Rattle.column_lists.proofs.Cutting.{no-cut}
 use Rattle.prepare.proofs.Joining.{cuts-length, getD-joined}
 use Rattle.prepare.proofs.Answering.{Accepted, accepted}
 use Rattle.prepare.proofs.OneOrder.{each-once-of}

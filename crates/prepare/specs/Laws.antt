@@ -17,7 +17,8 @@ use Rattle.sheet.specs.Sheet.{Sheet}
 use Rattle.sheet.specs.Sound.{Column, Sound}
 use Rattle.prepare.specs.declared.Prepared.{Prepared}
 use Rattle.prepare.specs.declared.Prepared.the-variants.{Done}
-use Rattle.prepare.specs.Prepared.{precedes, orderOf, orderList, cutList, countList, answerOf, PreparedOf}
+use Rattle.column_lists.specs.Lists.{precedes, orderOf}
+use Rattle.prepare.specs.Prepared.{orderList, cutList, countList, answerOf, PreparedOf}
 
 -- ---- the order
 

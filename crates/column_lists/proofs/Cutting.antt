@@ -15,8 +15,8 @@ use Rattle.basics.specs.Lists.{those}
 use Rattle.basics.proofs.Choice.{by-test, pick-true, pick-false}
 use Rattle.basics.proofs.Lists.{all-at}
 use Rattle.row_sort.specs.Sorting.{rowsFrom}
-use Rattle.prepare.specs.Prepared.{isCut, cutsAlong, padded}
-use Rattle.prepare.specs.Steps.{Ordering}
+use Rattle.column_lists.specs.Lists.{isCut, cutsAlong, padded}
+use Rattle.column_lists.specs.Steps.{Ordering}
 use Rattle.row_sort.proofs.Rows.{rows-append}
 use Rattle.row_sort.proofs.Parts.{put-tail, length-tail}
 
