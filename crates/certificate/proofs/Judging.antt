@@ -30,12 +30,13 @@ use Rattle.side_laws.specs.Opt.{mistakes, Proper}
 use Rattle.side_laws.specs.Root.{rootMistakes}
 use Rattle.side_laws.proofs.Mistakes.{leaf-mistakes, split-mistakes}
 use Rattle.side_laws.proofs.Root.{root-parts}
-use Rattle.judge.specs.declared.Wrong.the-variants.{AtLeaf, AtSplit}
-use Rattle.judge.specs.declared.Judgement.{Judgement}
+use Rattle.judge_rows.specs.declared.Wrong.the-variants.{AtLeaf, AtSplit}
+use Rattle.judge_rows.specs.declared.Judgement.{Judgement}
 use Rattle.judge.specs.declared.Verdict.{Verdict}
 use Rattle.judge.specs.declared.Verdict.the-variants.{TurnedBack, Judged}
-use Rattle.judge.specs.Mistakes.{rowsAt, wrongAt, sideWrong, wrongSum, rootLeftward, rootRightward, judgementOf}
-use Rattle.judge.specs.Judge.{judgedHolds, badColumn, badLeaf, badThreshold, back, backFirst, treeChecked, judgeOf}
+use Rattle.judge_rows.specs.Mistakes.{rowsAt, wrongAt, sideWrong, wrongSum, rootLeftward, rootRightward, judgementOf}
+use Rattle.judge_rows.specs.Passing.{badColumn}
+use Rattle.judge.specs.Judge.{judgedHolds, badLeaf, badThreshold, back, backFirst, treeChecked, judgeOf}
 use Rattle.certificate.specs.Certificate.{SideDouble, ownErrors}
 
 -- ---- mistakes

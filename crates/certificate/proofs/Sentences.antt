@@ -24,8 +24,8 @@ use Rattle.side_laws.specs.Root.{rootMistakes}
 use Rattle.side_laws.proofs.Sides.{tells}
 use Rattle.side_laws.proofs.Cuts.{at-cuts}
 use Rattle.side_laws.proofs.Root.{root-least, cut-mistakes}
-use Rattle.judge.specs.declared.Judgement.{Judgement}
-use Rattle.judge.specs.Mistakes.{rootLeftward, rootRightward, judgementOf}
+use Rattle.judge_rows.specs.declared.Judgement.{Judgement}
+use Rattle.judge_rows.specs.Mistakes.{rootLeftward, rootRightward, judgementOf}
 use Rattle.cut_try.specs.Try.{treeAt}
 use Rattle.depth2.specs.Search.{Progress, searched, answerOf, answerAfter, searchOf}
 use Rattle.depth2.specs.Laws.{cutError, MakesError, Bettered}

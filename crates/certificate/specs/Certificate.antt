@@ -15,11 +15,11 @@ use Rattle.tree.specs.declared.Side.the-variants.{Leaf, Split}
 use Rattle.tree.specs.declared.Tree.{Tree}
 use Rattle.tree.specs.declared.Answer.{Answer}
 use Rattle.tree.specs.Answer.{finalError, ruleOf}
-use Rattle.judge.specs.declared.Wrong.{Wrong}
-use Rattle.judge.specs.declared.Wrong.the-variants.{AtLeaf, AtSplit}
-use Rattle.judge.specs.declared.Judgement.{Judgement}
+use Rattle.judge_rows.specs.declared.Wrong.{Wrong}
+use Rattle.judge_rows.specs.declared.Wrong.the-variants.{AtLeaf, AtSplit}
+use Rattle.judge_rows.specs.declared.Judgement.{Judgement}
 use Rattle.judge.specs.declared.Verdict.the-variants.{Judged}
-use Rattle.judge.specs.Mistakes.{rowsAt, rootLeftward, rootRightward}
+use Rattle.judge_rows.specs.Mistakes.{rowsAt, rootLeftward, rootRightward}
 use Rattle.judge.specs.Judge.{judgeOf}
 use Rattle.depth2.specs.Search.{searchOf}
 

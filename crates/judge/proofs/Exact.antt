@@ -26,8 +26,9 @@ use Rattle.tree.specs.declared.Side.the-variants.{Leaf, Split}
 use Rattle.tree.specs.declared.Tree.{Tree}
 use Rattle.judge.specs.declared.Verdict.{Verdict}
 use Rattle.judge.specs.declared.Verdict.the-variants.{TurnedBack, Judged}
-use Rattle.judge.specs.Mistakes.{rowsAt, rootLeftward, rootRightward, all, judgementOf}
-use Rattle.judge.specs.Judge.{judgedHolds, badColumn, badLeaf, badThreshold, back, backFirst, treeChecked, judgeOf}
+use Rattle.judge_rows.specs.Mistakes.{rowsAt, rootLeftward, rootRightward, all, judgementOf}
+use Rattle.judge_rows.specs.Passing.{badColumn}
+use Rattle.judge.specs.Judge.{judgedHolds, badLeaf, badThreshold, back, backFirst, treeChecked, judgeOf}
 use Rattle.judge.specs.Laws.{Lengths, AsksHigh, LeafAbove, AsksEndless, among, conditionsOf, Condition, First, GivenExactly, JudgedExactly, EveryRowCounted}
 use Rattle.judge.proofs.Reasons.{values-length, codes-length, rest1, rest2, rest3, rest4, rest5, rest6, rest7, rest8, after1, after2, after5}
 

@@ -1,5 +1,4 @@
 -- Laws of the judge, for every crate to cite.
 pub mod Finite
-pub mod Passing
 pub mod Reasons
 pub mod Exact

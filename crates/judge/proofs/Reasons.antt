@@ -20,8 +20,9 @@ use Rattle.sheet.proofs.Search.{truth, untruth}
 use Rattle.judge.specs.declared.Verdict.{Verdict}
 use Rattle.judge.specs.declared.Verdict.the-variants.{TurnedBack, Judged}
 use Rattle.judge.specs.Reasons.{columnHigh, leafHigh, thresholdEndless, atRoot, atLeft, atRight}
-use Rattle.judge.specs.Mistakes.{judgementOf}
-use Rattle.judge.specs.Judge.{back, backFirst, judgedHolds, badColumn, badLeaf, badThreshold, treeChecked, judgeOf}
+use Rattle.judge_rows.specs.Mistakes.{judgementOf}
+use Rattle.judge_rows.specs.Passing.{badColumn}
+use Rattle.judge.specs.Judge.{back, backFirst, judgedHolds, badLeaf, badThreshold, treeChecked, judgeOf}
 
 made : (b : Bool) → T b → b ≡ true
 made true t = refl

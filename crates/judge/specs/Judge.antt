@@ -12,19 +12,15 @@ use Rattle.sheet.specs.Reasons.{sizeOutside, lengthWrong, valueOutside, labelHi
 use Rattle.tree.specs.declared.Side.{Side}
 use Rattle.tree.specs.declared.Side.the-variants.{Leaf, Split}
 use Rattle.tree.specs.declared.Tree.{Tree}
+use Rattle.judge_rows.specs.Mistakes.{judgementOf}
+use Rattle.judge_rows.specs.Passing.{badColumn}
 use Rattle.judge.specs.declared.Verdict.{Verdict}
 use Rattle.judge.specs.declared.Verdict.the-variants.{TurnedBack, Judged}
 use Rattle.judge.specs.Reasons.{columnHigh, leafHigh, thresholdEndless, atRoot, atLeft, atRight}
-use Rattle.judge.specs.Mistakes.{judgementOf}
 
 -- 2: "an input slice of the wrong length": the judge is handed values and labels only
 unfoldable pub judgedHolds : Sheet → Bool
 judgedHolds s = eqb (length (s .values)) (cellsOf s) && eqb (length (s .codes)) (s .rows)
-
--- 10: "judge: tree column too high", at a side's question
-unfoldable pub badColumn : ℕ → Side → Bool
-badColumn columns (Leaf label error) = false
-badColumn columns (Split column threshold left right lost missed) = leb columns column
 
 -- 11: "judge: leaf label too high", at any leaf of a side
 unfoldable pub badLeaf : ℕ → Side → Bool

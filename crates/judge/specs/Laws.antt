@@ -11,9 +11,9 @@ use Rattle.sheet.specs.Laws.{SizeOutside, ValueOutside, LabelHigh}
 use Rattle.tree.specs.declared.Side.{Side}
 use Rattle.tree.specs.declared.Side.the-variants.{Leaf, Split}
 use Rattle.tree.specs.declared.Tree.{Tree}
-use Rattle.judge.specs.declared.Judgement.{Judgement}
+use Rattle.judge_rows.specs.declared.Judgement.{Judgement}
 use Rattle.judge.specs.declared.Verdict.the-variants.{TurnedBack, Judged}
-use Rattle.judge.specs.Mistakes.{rowsAt, rootLeftward, rootRightward, judgementOf}
+use Rattle.judge_rows.specs.Mistakes.{rowsAt, rootLeftward, rootRightward, judgementOf}
 use Rattle.judge.specs.Judge.{judgeOf}
 
 -- ---- the conditions, each of a place; 1, 5 and 6 are the input check's

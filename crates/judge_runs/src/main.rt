@@ -1,6 +1,6 @@
 // Runs the judge and prints each verdict: document 01's trees on the four-row sheet, and each refusal at each of its places.
 use judge::Verdict;
-use judge::Wrong;
+use judge_rows::Wrong;
 use libc::STDOUT_FILENO;
 use sheet::Size;
 use tree::Side;

@@ -2,9 +2,9 @@
 ghost use Prim.Native.Nat.{_≤_};
 use crate::count;
 use crate::count::Count;
-use judge::Judgement;
 use judge::Verdict;
-use judge::Wrong;
+use judge_rows::Judgement;
+use judge_rows::Wrong;
 use sheet::MOST_COLUMNS;
 use sheet::Size;
 use sheet::Terms;

@@ -13,7 +13,8 @@ use Rattle.tree.specs.declared.Tree.{Tree}
 use Rattle.judge.specs.declared.Verdict.{Verdict}
 use Rattle.judge.specs.declared.Verdict.the-variants.{Judged}
 use Rattle.judge.specs.Reasons.{columnHigh, leafHigh, thresholdEndless, atRoot, atLeft, atRight}
-use Rattle.judge.specs.Judge.{badColumn, badLeaf, badThreshold, treeChecked}
+use Rattle.judge_rows.specs.Passing.{badColumn}
+use Rattle.judge.specs.Judge.{badLeaf, badThreshold, treeChecked}
 use Rattle.judge.proofs.Reasons.{back-stop, back-go, rest1, rest2, rest3, rest4, rest5, rest6, rest7, rest8, tree-checked}
 use Rattle.judge.proofs.judge_tree.Statement.{statement}
 use Rattle.judge.proofs.judge_tree.Tie as tie

@@ -1,4 +1,4 @@
--- `judge::judge_rows` meets its contract: what was seen of the two sides, summed up. Assumes nothing.
+-- `judge_rows::judge_rows` meets its contract: what was seen of the two sides, summed up. Assumes nothing.
 use Prim.Native.Nat.{_≤_, _*_}
 use mathlib.Core.List.{[]}
 use native.Mathlib.Omega.{arith}
@@ -6,10 +6,10 @@ use borrow.Author.Needs.{needs}
 use Rattle.sheet.specs.Limits.{mostRows}
 use Rattle.sheet.specs.Sheet.{Sheet}
 use Rattle.sheet.specs.Check.{sheetOf}
-use Rattle.judge.specs.Mistakes.{wrongSum}
-use Rattle.judge.proofs.Passing.{sum-most, left-within, right-within, summed}
-use Rattle.judge.proofs.judge_rows.Statement.{statement}
-use Rattle.judge.proofs.judge_rows.Tie as tie
+use Rattle.judge_rows.specs.Mistakes.{wrongSum}
+use Rattle.judge_rows.proofs.Passing.{sum-most, left-within, right-within, summed}
+use Rattle.judge_rows.proofs.judge_rows.Statement.{statement}
+use Rattle.judge_rows.proofs.judge_rows.Tie as tie
 
 -- ---- the start, and the two sides' mistakes
 

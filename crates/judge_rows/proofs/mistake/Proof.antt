@@ -1,11 +1,11 @@
--- `judge::mistake` meets its contract. Assumes nothing.
+-- `judge_rows::mistake` meets its contract. Assumes nothing.
 use mathlib.Core.Path.{sym, ap}
 use mathlib.Core.Bool.{not}
 use native.Mathlib.Omega.{arith}
 use borrow.Author.Tests.{eq-eqb, ne-eqb}
 use Rattle.basics.specs.Choice.{bit}
-use Rattle.judge.proofs.mistake.Statement.{statement}
-use Rattle.judge.proofs.mistake.Tie as tie
+use Rattle.judge_rows.proofs.mistake.Statement.{statement}
+use Rattle.judge_rows.proofs.mistake.Tie as tie
 
 returns : tie.Need-returns
 returns c = (sym (ap (λ b. bit (not b)) (eq-eqb _ _ (c .if1 .taken))), omega arith)

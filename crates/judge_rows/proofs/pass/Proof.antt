@@ -1,4 +1,4 @@
--- `judge::pass` meets its contract. The loop's invariant: what was seen of each side is what the definition counts over the rows passed. Assumes
+-- `judge_rows::pass` meets its contract. The loop's invariant: what was seen of each side is what the definition counts over the rows passed. Assumes
 -- nothing.
 use mathlib.Core.Path.{_≡_, sym, ap, _∙_, subst}
 use mathlib.Core.Logic.{⊎-elim}
@@ -13,11 +13,11 @@ use Rattle.sheet.specs.Sheet.{Sheet, valueOf}
 use Rattle.sheet.specs.Check.{sheetOf}
 use Rattle.sheet.proofs.Index.{column-in}
 use Rattle.sheet.proofs.Search.{truth, untruth}
-use Rattle.judge.specs.Mistakes.{rootLeftward, rootRightward}
-use Rattle.judge.specs.Passing.{Within, seenOf, nextOf}
-use Rattle.judge.proofs.Passing.{cell, seen-none, seen-comes, seen-stays, seen-within, passed}
-use Rattle.judge.proofs.pass.Statement.{statement}
-use Rattle.judge.proofs.pass.Tie as tie
+use Rattle.judge_rows.specs.Mistakes.{rootLeftward, rootRightward}
+use Rattle.judge_rows.specs.Passing.{Within, seenOf, nextOf}
+use Rattle.judge_rows.proofs.Passing.{cell, seen-none, seen-comes, seen-stays, seen-within, passed}
+use Rattle.judge_rows.proofs.pass.Statement.{statement}
+use Rattle.judge_rows.proofs.pass.Tie as tie
 
 abbrev Inv-loop : tie.InvT-loop
 Inv-loop size values codes tree base first second left₀ right₀ row₀ left right row =

@@ -1,4 +1,4 @@
--- `judge::next` meets its contract: the row goes to one leaf, as the definition's cases say. Assumes nothing.
+-- `judge_rows::next` meets its contract: the row goes to one leaf, as the definition's cases say. Assumes nothing.
 use mathlib.Core.Path.{_≡_, sym, _∙_}
 use Prim.Native.Nat.{_+_, _*_, _<_}
 use mathlib.Core.List.{[]}
@@ -7,9 +7,9 @@ use borrow.Author.Needs.{needs}
 use lib.ListN.{length}
 use Rattle.sheet.specs.Sheet.{Sheet, valueOf, labelOf}
 use Rattle.sheet.specs.Check.{sheetOf}
-use Rattle.judge.proofs.Passing.{cell, asked, next-leaf, next-left, next-right}
-use Rattle.judge.proofs.next.Statement.{statement}
-use Rattle.judge.proofs.next.Tie as tie
+use Rattle.judge_rows.proofs.Passing.{cell, asked, next-leaf, next-left, next-right}
+use Rattle.judge_rows.proofs.next.Statement.{statement}
+use Rattle.judge_rows.proofs.next.Tie as tie
 
 -- ---- the start, and what was read
 

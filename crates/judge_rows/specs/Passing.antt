@@ -1,10 +1,10 @@
 -- One row after another through the tree: what has been seen of a side after the first rows. Definitions only.
 use Prim.Native.Nat.{ℕ, _+_, _≤_, _<_, _*_}
 use mathlib.Core.Path.{_≡_}
-use mathlib.Core.Bool.{Bool, not, _&&_}
+use mathlib.Core.Bool.{Bool, false, not, _&&_}
 use mathlib.Core.List.{List}
 use lib.ListN.{length}
-use lib.Dec.{T, eqb}
+use lib.Dec.{T, leb, eqb}
 use lib.Ieee.{Float}
 use Rattle.basics.specs.Choice.{pick, bit}
 use Rattle.basics.specs.Lists.{tally, table}
@@ -15,12 +15,11 @@ use Rattle.sheet.specs.Sheet.{Sheet, valueOf, labelOf}
 use Rattle.tree.specs.declared.Side.{Side}
 use Rattle.tree.specs.declared.Side.the-variants.{Leaf, Split}
 use Rattle.tree.specs.declared.Tree.{Tree}
-use Rattle.judge.specs.declared.Wrong.{Wrong}
-use Rattle.judge.specs.declared.Wrong.the-variants.{AtLeaf, AtSplit}
-use Rattle.judge.specs.declared.Seen.{Seen}
-use Rattle.judge.specs.declared.Passed.{Passed}
-use Rattle.judge.specs.Mistakes.{leftward, rightward, rootLeftward, rootRightward}
-use Rattle.judge.specs.Judge.{badColumn}
+use Rattle.judge_rows.specs.declared.Wrong.{Wrong}
+use Rattle.judge_rows.specs.declared.Wrong.the-variants.{AtLeaf, AtSplit}
+use Rattle.judge_rows.specs.declared.Seen.{Seen}
+use Rattle.judge_rows.specs.declared.Passed.{Passed}
+use Rattle.judge_rows.specs.Mistakes.{leftward, rightward, rootLeftward, rootRightward}
 
 -- how many of the first n rows pass
 abbrev pub firstRows : (ℕ → Bool) → ℕ → ℕ
@@ -76,6 +75,11 @@ pub record Within (seen : Seen) (n : ℕ) : Type 0 where
   pub rows-in : seen .rows ≤ n
   pub lost-in : seen .lost ≤ n
   pub missed-in : seen .missed ≤ n
+
+-- 10: "judge: tree column too high", at a side's question
+unfoldable pub badColumn : ℕ → Side → Bool
+badColumn columns (Leaf label error) = false
+badColumn columns (Split column threshold left right lost missed) = leb columns column
 
 -- the tree asks columns of the sheet
 pub record Asking (columns : ℕ) (t : Tree) : Type 0 where

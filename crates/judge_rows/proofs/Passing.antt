@@ -20,13 +20,12 @@ use Rattle.sheet.proofs.Search.{truth, untruth}
 use Rattle.tree.specs.declared.Side.{Side}
 use Rattle.tree.specs.declared.Side.the-variants.{Leaf, Split}
 use Rattle.tree.specs.declared.Tree.{Tree}
-use Rattle.judge.specs.declared.Wrong.{Wrong}
-use Rattle.judge.specs.declared.Seen.{Seen}
-use Rattle.judge.specs.declared.Passed.{Passed}
-use Rattle.judge.specs.declared.Judgement.{Judgement}
-use Rattle.judge.specs.Mistakes.{leftward, rightward, rootLeftward, rootRightward, rowsAt, wrongAt, sideWrong, wrongSum, supportOf, judgementOf}
-use Rattle.judge.specs.Judge.{badColumn}
-use Rattle.judge.specs.Passing.{firstRows, mistaken, seenOf, passedOf, atLost, atMissed, nextOf, wrongOf, Within}
+use Rattle.judge_rows.specs.declared.Wrong.{Wrong}
+use Rattle.judge_rows.specs.declared.Seen.{Seen}
+use Rattle.judge_rows.specs.declared.Passed.{Passed}
+use Rattle.judge_rows.specs.declared.Judgement.{Judgement}
+use Rattle.judge_rows.specs.Mistakes.{leftward, rightward, rootLeftward, rootRightward, rowsAt, wrongAt, sideWrong, wrongSum, supportOf, judgementOf}
+use Rattle.judge_rows.specs.Passing.{badColumn, firstRows, mistaken, seenOf, passedOf, atLost, atMissed, nextOf, wrongOf, Within}
 
 -- ---- a value's index
 

@@ -1,11 +1,11 @@
--- `judge::wrong_sum` meets its contract: it goes by the definition's two cases. Assumes nothing.
+-- `judge_rows::wrong_sum` meets its contract: it goes by the definition's two cases. Assumes nothing.
 use borrow.Author.Needs.{needs}
 use mathlib.Core.Path.{sym, ap, subst}
 use Prim.Native.Nat.{_≤_}
 use native.Mathlib.Omega.{arith}
-use Rattle.judge.specs.Mistakes.{wrongSum}
-use Rattle.judge.proofs.wrong_sum.Statement.{statement}
-use Rattle.judge.proofs.wrong_sum.Tie as tie
+use Rattle.judge_rows.specs.Mistakes.{wrongSum}
+use Rattle.judge_rows.proofs.wrong_sum.Statement.{statement}
+use Rattle.judge_rows.proofs.wrong_sum.Tie as tie
 
 enum-known-wrong : tie.Need-enum-known-wrong
 enum-known-wrong c = search needs

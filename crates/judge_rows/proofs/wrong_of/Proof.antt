@@ -1,9 +1,9 @@
--- `judge::wrong_of` meets its contract: it goes by the definition's two cases. Assumes nothing.
+-- `judge_rows::wrong_of` meets its contract: it goes by the definition's two cases. Assumes nothing.
 use borrow.Author.Needs.{needs}
 use mathlib.Core.Path.{sym, ap}
-use Rattle.judge.specs.Passing.{wrongOf}
-use Rattle.judge.proofs.wrong_of.Statement.{statement}
-use Rattle.judge.proofs.wrong_of.Tie as tie
+use Rattle.judge_rows.specs.Passing.{wrongOf}
+use Rattle.judge_rows.proofs.wrong_of.Statement.{statement}
+use Rattle.judge_rows.proofs.wrong_of.Tie as tie
 
 enum-told : tie.Need-enum-told
 enum-told c = search needs

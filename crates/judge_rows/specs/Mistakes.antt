@@ -10,9 +10,9 @@ use Rattle.sheet.specs.Sheet.{Sheet, valueOf, labelOf, everyRow}
 use Rattle.tree.specs.declared.Side.{Side}
 use Rattle.tree.specs.declared.Side.the-variants.{Leaf, Split}
 use Rattle.tree.specs.declared.Tree.{Tree}
-use Rattle.judge.specs.declared.Wrong.{Wrong}
-use Rattle.judge.specs.declared.Wrong.the-variants.{AtLeaf, AtSplit}
-use Rattle.judge.specs.declared.Judgement.{Judgement}
+use Rattle.judge_rows.specs.declared.Wrong.{Wrong}
+use Rattle.judge_rows.specs.declared.Wrong.the-variants.{AtLeaf, AtSplit}
+use Rattle.judge_rows.specs.declared.Judgement.{Judgement}
 
 -- "Rows with value ≤ threshold go left.": of the rows that come to a question, those that go left, and the others
 abbrev pub leftward : Sheet → ℕ → Float → (ℕ → Bool) → ℕ → Bool

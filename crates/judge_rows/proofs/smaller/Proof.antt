@@ -1,7 +1,7 @@
--- `judge::smaller` meets its contract. Assumes nothing.
+-- `judge_rows::smaller` meets its contract. Assumes nothing.
 use native.Mathlib.Omega.{arith}
-use Rattle.judge.proofs.smaller.Statement.{statement}
-use Rattle.judge.proofs.smaller.Tie as tie
+use Rattle.judge_rows.proofs.smaller.Statement.{statement}
+use Rattle.judge_rows.proofs.smaller.Tie as tie
 
 returns : tie.Need-returns
 returns c = omega arith

@@ -1,0 +1,2 @@
+-- What is seen row by row, for the functions here.
+mod Passing

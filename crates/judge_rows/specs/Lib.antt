@@ -1,0 +1,2 @@
+pub mod Mistakes
+pub mod Passing
