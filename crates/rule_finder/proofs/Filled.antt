@@ -20,7 +20,8 @@ use Rattle.sheet_bytes.specs.Read.{readOf, answerOf, valuesIn, codesIn}
 use Rattle.sheet_bytes.specs.Laws as read
 use Rattle.sheet_bytes.proofs.Stages as stages
 use Rattle.head_numbers.specs.Numbers.{termsOf}
-use Rattle.rule_finder.specs.Run.{wordsLent, runOf, Prepares}
+use Rattle.sheet_search.specs.Lent.{wordsLent, Prepares}
+use Rattle.rule_finder.specs.Run.{runOf}
 use Rattle.rule_finder.proofs.Reading.{values-length, codes-length, prepares}
 use Rattle.rule_finder.proofs.Laws.{searched-of}
 

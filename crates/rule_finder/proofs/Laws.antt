@@ -26,7 +26,8 @@ use Rattle.sheet_bytes.specs.declared.Read.the-variants as read
 use Rattle.sheet_bytes.specs.Read.{readOf}
 use Rattle.sheet_bytes.proofs.Stages as stages
 use Rattle.head_numbers.specs.Numbers.{termsOf}
-use Rattle.rule_finder.specs.Run.{wordsLent, sheetRead, answerTo, runOf}
+use Rattle.sheet_search.specs.Lent.{wordsLent}
+use Rattle.rule_finder.specs.Run.{sheetRead, answerTo, runOf}
 use Rattle.rule_finder.specs.Laws.{NeverTurnedBack, RefusedExactly, EverySigned, WrittenWithin, TextWritten, OutcomesCoincide}
 use Rattle.rule_finder.proofs.Reading.{doubles, accepted}
 

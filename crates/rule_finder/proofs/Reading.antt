@@ -29,7 +29,8 @@ use Rattle.sheet_cells.specs.Cells.{bitsOf, valueOf, codeOf, valuesOf, codesOf,
 use Rattle.sheet_bytes.specs.Laws as read
 use Rattle.sheet_bytes.proofs.Stages.{rows-inside, columns-inside, labels-inside, small-accepted, valued-accepted}
 use Rattle.head_numbers.specs.Numbers.{termsOf}
-use Rattle.rule_finder.specs.Run.{wordsLent, sheetRead, Prepares}
+use Rattle.sheet_search.specs.Lent.{wordsLent, Prepares}
+use Rattle.rule_finder.specs.Run.{sheetRead}
 
 -- a table of doubles has doubles throughout, and a NaN past its end
 all-fit : (f : ℕ → Float) (n : ℕ) → ((k : ℕ) → T (fits binary64 (f k))) → (i : ℕ) → T (fits binary64 (getD (table f n) i nan))

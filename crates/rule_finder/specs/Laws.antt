@@ -15,7 +15,8 @@ use Rattle.sheet_bytes.specs.declared.Read.the-variants.{Refused, Sheet}
 use Rattle.sheet_bytes.specs.Read.{readOf}
 use Rattle.sheet_room.specs.Room.{largestSheet}
 use Rattle.head_numbers.specs.Numbers.{termsOf}
-use Rattle.rule_finder.specs.Run.{wordsLent, sheetRead, runOf}
+use Rattle.sheet_search.specs.Lent.{wordsLent}
+use Rattle.rule_finder.specs.Run.{sheetRead, runOf}
 
 -- "Order: 20, 1, 21, 22, 23, 4, 5, 6.": these are the reader's, and a sheet that is read is never turned back
 abbrev pub NeverTurnedBack : Type 0

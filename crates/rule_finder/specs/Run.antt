@@ -1,30 +1,19 @@
 -- What the finder answers to a sheet's bytes (document 01, "Program (added)"): the reader's refusal, or what the search of the prepared sheet
 -- answers. Definitions only.
-use mathlib.Core.Path.{_≡_}
-use Prim.Native.Nat.{ℕ, _*_}
+use Prim.Native.Nat.{ℕ}
 use mathlib.Core.List.{List}
-use lib.ListN.{length}
-use lib.Ieee.{Float}
-use Rattle.sheet.specs.Limits.{wordsPerRow}
 use Rattle.sheet.specs.Sheet.{Sheet}
 use Rattle.tree.specs.declared.Answer.{Answer}
 use Rattle.tree.specs.declared.Answer.the-variants.{TurnedBack}
 use Rattle.depth2.specs.Search.{searchOf}
-use Rattle.prepare.specs.declared.Prepared.the-variants.{Done}
-use Rattle.prepare.specs.Prepared.{answerOf}
 use Rattle.prepare.specs.Laws.{preparedSheet}
 use Rattle.sheet_head.specs.declared.Head.{Head}
 use Rattle.head_numbers.specs.Numbers.{termsOf}
+use Rattle.sheet_search.specs.Lent.{wordsLent}
 use Rattle.sheet_bytes.specs.declared.Read.{Read}
 use Rattle.sheet_bytes.specs.declared.Read.the-variants as read
-use Rattle.sheet_room.specs.Room.{mostRead}
-use Rattle.sheet_head.specs.Head.{Small, cellsOf}
 use Rattle.sheet_cells.specs.Cells.{valuesOf, codesOf}
 use Rattle.sheet_bytes.specs.Read.{readOf}
-
--- "Scratch has at least 8 u32 words per row.": enough for the largest sheet, whatever the sheet
-abbrev pub wordsLent : ℕ
-wordsLent = wordsPerRow * mostRead
 
 -- "The preparer takes values only": the sheet that the bytes say, with the preparer's order, cuts and counts
 abbrev pub sheetRead : List ℕ → Head → Sheet
@@ -37,9 +26,3 @@ answerTo bytes (read.Sheet h) = searchOf (sheetRead bytes h) (termsOf h) wordsLe
 
 unfoldable pub runOf : List ℕ → Answer
 runOf bytes = answerTo bytes (readOf bytes)
-
--- ---- a sheet that was read, with just its values: the preparer has no reason to turn it back
-pub record Prepares (h : Head) (values : List Float) : Type 0 where
-  pub small : Small h
-  pub all : length values ≡ cellsOf h
-  pub done : Done ≡ answerOf (h .rows) (h .columns) values (cellsOf h) (cellsOf h) (h .columns)

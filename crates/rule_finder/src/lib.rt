@@ -1,65 +1,12 @@
 // The finder as one function: a sheet's bytes in, the text of its answer out.
 ghost use mathlib.Core.Path.{_≡_};
-ghost use lib.ListN.{length};
-ghost use Rattle.prepare.specs.declared.Prepared.the-variants.{Done};
-ghost use Rattle.prepare.specs.Prepared.{answerOf};
-ghost use Rattle.prepare.specs.Laws.{preparedSheet};
-ghost use Rattle.depth2.specs.Search.{searchOf};
 ghost use Rattle.listing.specs.Listing.{writtenOf, outOf};
-ghost use Rattle.head_numbers.specs.Numbers.{termsOf};
-ghost use Rattle.rule_finder.specs.Run.{wordsLent, runOf, Prepares};
-use head_numbers::size_of;
-use head_numbers::terms_of;
-use sheet::MOST_COLUMNS;
+ghost use Rattle.rule_finder.specs.Run.{runOf};
 use sheet_bytes::Read;
-use sheet_head::Head;
 use sheet_room::MOST_CELLS;
 use sheet_room::MOST_READ;
+use sheet_search::find;
 use tree::Answer;
-
-// Scratch for the largest sheet: eight words for each row.
-const WORDS_LENT: usize = 16384;
-
-// The preparer's answer is not asked: it turns back no sheet that was read.
-fn prepare_and_search(
-    head: Head,
-    values: &[f64],
-    codes: &[u8],
-    order: &mut [u16],
-    cuts: &mut [u16],
-    counts: &mut [u16],
-    scratch: &mut [u32],
-) -> Answer
-    requires { ⌜ Done ≡ answerOf (head .rows) (head .columns) (now values) (length (now order)) (length (now cuts)) (length (now counts)) ⌝ }
-    ensures { λ r. ⌜ r ≡ searchOf (preparedSheet (head .rows) (head .columns) (head .labels) (now (values .entry)) (now (codes .entry))) (termsOf head) (length (now (scratch .entry))) ⌝ }
-{
-    prepare::prepare(head.rows, head.columns, values, order, cuts, counts);
-    let size = size_of(head);
-    let terms = terms_of(head);
-    certificate::certified_search(size, terms, values, codes, order, cuts, counts, scratch)
-}
-
-// A sheet's answer, with the room that the preparer and the search ask for.
-fn find(head: Head, values: &[f64], codes: &[u8]) -> Answer
-    requires { ⌜ Prepares head (now values) ⌝ }
-    ensures { λ r. ⌜ r ≡ searchOf (preparedSheet (head .rows) (head .columns) (head .labels) (now (values .entry)) (now (codes .entry))) (termsOf head) wordsLent ⌝ }
-{
-    let mut order = [0u16; MOST_CELLS];
-    let mut cuts = [0u16; MOST_CELLS];
-    let mut counts = [0u16; MOST_COLUMNS];
-    let mut scratch = [0u32; WORDS_LENT];
-    let cells = values.len();
-    let columns = head.columns;
-    prepare_and_search(
-        head,
-        values,
-        codes,
-        &mut order[..cells],
-        &mut cuts[..cells],
-        &mut counts[..columns],
-        &mut scratch,
-    )
-}
 
 fn answer_to(bytes: &[u8]) -> Answer
     ensures { λ r. ⌜ r ≡ runOf (now (bytes .entry)) ⌝ }

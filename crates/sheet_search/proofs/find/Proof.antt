@@ -1,9 +1,9 @@
--- `rule_finder::find` meets its contract: the room is just that of the sheet. Assumes nothing.
+-- `sheet_search::find` meets its contract: the room is just that of the sheet. Assumes nothing.
 use mathlib.Core.Path.{sym}
 use borrow.Author.Needs.{needs}
-use Rattle.rule_finder.proofs.Room.{cells-room, columns-room, room}
-use Rattle.rule_finder.proofs.find.Statement.{statement}
-use Rattle.rule_finder.proofs.find.Tie as tie
+use Rattle.sheet_search.proofs.Room.{cells-room, columns-room, room}
+use Rattle.sheet_search.proofs.find.Statement.{statement}
+use Rattle.sheet_search.proofs.find.Tie as tie
 
 array-borrow-prefix-order : tie.Need-array-borrow-prefix-order
 array-borrow-prefix-order c = search needs

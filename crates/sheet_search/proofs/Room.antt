@@ -11,7 +11,7 @@ use Rattle.prepare.specs.declared.Prepared.the-variants.{Done}
 use Rattle.prepare.specs.Prepared.{answerOf}
 use Rattle.sheet_head.specs.declared.Head.{Head}
 use Rattle.sheet_room.specs.Room.{mostCells}
-use Rattle.rule_finder.specs.Run.{Prepares}
+use Rattle.sheet_search.specs.Lent.{Prepares}
 
 -- the first places of so many zeros
 abbrev pub places : ℕ → ℕ → List ℕ

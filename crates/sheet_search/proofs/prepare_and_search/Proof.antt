@@ -1,10 +1,10 @@
--- `rule_finder::prepare_and_search` meets its contract: the preparer does not turn back, so the search is that of the prepared sheet. Assumes nothing.
+-- `sheet_search::prepare_and_search` meets its contract: the preparer does not turn back, so the search is that of the prepared sheet. Assumes nothing.
 use mathlib.Core.Path.{_∙_}
 use lib.ListN.{length}
 use borrow.Author.Needs.{needs}
-use Rattle.rule_finder.proofs.Calling.{search-prepared}
-use Rattle.rule_finder.proofs.prepare_and_search.Statement.{statement}
-use Rattle.rule_finder.proofs.prepare_and_search.Tie as tie
+use Rattle.sheet_search.proofs.Calling.{search-prepared}
+use Rattle.sheet_search.proofs.prepare_and_search.Statement.{statement}
+use Rattle.sheet_search.proofs.prepare_and_search.Tie as tie
 
 prepare-requires : tie.Need-prepare-requires
 prepare-requires c κs = search needs
