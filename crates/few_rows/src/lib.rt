@@ -10,8 +10,18 @@ use sheet::MOST_ROWS;
 use sheet::Size;
 use side_scan::SideScan;
 use two_sides::Two;
-use two_sides::label_number;
-use two_sides::row_number;
+
+fn row_number(entry: u16) -> usize
+    ensures { λ r. ⌜ r ≡ entry ⌝ }
+{
+    entry as usize
+}
+
+fn label_number(code: u8) -> usize
+    ensures { λ r. ⌜ r ≡ code ⌝ }
+{
+    code as usize
+}
 
 // Whether a row whose side has that number is of the side asked for.
 fn is_own(side: u8, left: bool) -> bool

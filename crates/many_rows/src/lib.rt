@@ -14,9 +14,19 @@ use sheet::Size;
 use two_sides::SIDES;
 use two_sides::Two;
 use two_sides::is_over;
-use two_sides::label_number;
 use two_sides::not_begun;
-use two_sides::row_number;
+
+fn row_number(entry: u16) -> usize
+    ensures { λ r. ⌜ r ≡ entry ⌝ }
+{
+    entry as usize
+}
+
+fn label_number(code: u8) -> usize
+    ensures { λ r. ⌜ r ≡ code ⌝ }
+{
+    code as usize
+}
 
 fn side_number(side: u8) -> usize
     ensures { λ r. ⌜ r ≡ side ⌝ }

@@ -30,13 +30,7 @@ pub struct Parted {
     pub rest: u32,
 }
 
-pub fn row_number(entry: u16) -> usize
-    ensures { λ r. ⌜ r ≡ entry ⌝ }
-{
-    entry as usize
-}
-
-pub fn label_number(code: u8) -> usize
+fn label_number(code: u8) -> usize
     ensures { λ r. ⌜ r ≡ code ⌝ }
 {
     code as usize
