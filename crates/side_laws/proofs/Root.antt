@@ -9,7 +9,7 @@ use lib.ListN.{length, getD}
 use lib.Dec.{T, not-T, leb, ltb, eqb, leb→le, le→leb, eqb→eq, eqb-refl}
 use lib.Ieee.{Float}
 use Rattle.basics.specs.Choice.{pick, bit}
-use Rattle.basics.specs.Lists.{All, tally, table}
+use Rattle.basics.specs.Lists.{tally, table}
 use Rattle.basics.proofs.Choice.{decide, order, bit-true, bit-false, bit-le}
 use Rattle.basics.proofs.Lists.{all-at, all-map, tally-none, tally-parts, getD-table, length-table}
 use Rattle.order.specs.Order.{key, comparable}
