@@ -2,7 +2,10 @@
 use mathlib.Core.Path.{sym, _∙_}
 use Rattle.prepare.proofs.Soundness.{determined}
 use Rattle.rule_finder.proofs.Laws.{outcomes-coincide}
-use Rattle.outcomes.specs.Outcomes.{ThresholdBetween, GoesLeft, InRange, SentLeft, LeftOfCut, FirstBadValue, FirstBadLabel, SizeHolds, Check, Prepare, PlaceAt, ReaderLowerBound, ReaderUpperBound, LowerBound, UpperBound, FeasibleSplits, AddResult, SubintervalPruning, IntervalShrinking, NeighbourhoodPruning, Push, Pop, GetLeavesScore, Search, Judge, ReadSheet, WriteAnswer, BitsOf, RunText, ScanCut, TellPrepared, TellChecked, TellSearched, TellScanned, FinderPrepare, FinderCheck, FinderSearch, FinderScan}
+use Rattle.outcomes.specs.Outcomes.{Equation, ThresholdBetween, GoesLeft, InRange, SentLeft, LeftOfCut, FirstBadValue, FirstBadLabel, SizeHolds, Check, Prepare, PlaceAt, ReaderLowerBound, ReaderUpperBound, LowerBound, UpperBound, FeasibleSplits, AddResult, SubintervalPruning, IntervalShrinking, NeighbourhoodPruning, Push, Pop, GetLeavesScore, Search, Judge, ReadSheet, WriteAnswer, BitsOf, RunText, ScanCut, TellPrepared, TellChecked, TellSearched, TellScanned, FinderPrepare, FinderCheck, FinderSearch, FinderScan}
+
+pub equation : Equation
+equation A said a b p q = p ∙ sym q
 
 pub threshold-between : ThresholdBetween
 threshold-between lower upper a b p q = p ∙ sym q

@@ -52,6 +52,10 @@ use Rattle.c_face.specs.Face.{sheetIn, prepareAnswer, checkAnswer, searchAnswer
 abbrev pub One : (A : Type 0) → A → Type 0
 One A said = (a b : A) → a ≡ said → b ≡ said → a ≡ b
 
+-- of a function whose whole contract is that its answer, or a lent list at exit, is what a definition says
+abbrev pub Equation : Type 1
+Equation = (A : Type 0) (said : A) → One A said
+
 -- ---- values
 
 abbrev pub ThresholdBetween : Type 0
