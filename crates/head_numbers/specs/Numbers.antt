@@ -1,7 +1,7 @@
 -- A sheet's header as the numbers of a sheet and of a search. Definitions only.
 use Rattle.sheet.specs.declared.Size.{Size}
 use Rattle.sheet.specs.declared.Terms.{Terms}
-use Rattle.sheet_head.specs.declared.Head.{Head}
+use Rattle.sheet_bytes.specs.declared.Head.{Head}
 
 abbrev pub sizeOf : Head → Size
 sizeOf h = record { rows = h .rows; columns = h .columns; labels = h .labels }

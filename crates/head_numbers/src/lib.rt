@@ -1,7 +1,7 @@
 // A sheet's header as the numbers of a sheet and of a search.
 use sheet::Size;
 use sheet::Terms;
-use sheet_head::Head;
+use sheet_bytes::Head;
 ghost use mathlib.Core.Path.{_≡_};
 ghost use Rattle.head_numbers.specs.Numbers.{sizeOf, termsOf};
 

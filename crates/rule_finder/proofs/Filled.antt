@@ -10,13 +10,11 @@ use lib.Ieee.{Float}
 use Rattle.basics.specs.Choice.{pick}
 use Rattle.depth2.specs.Search.{searchOf}
 use Rattle.prepare.specs.Laws.{preparedSheet}
-use Rattle.sheet_head.specs.declared.Head.{Head}
+use Rattle.sheet_bytes.specs.declared.Head.{Head}
 use Rattle.sheet_bytes.specs.declared.Read.{Read}
 use Rattle.sheet_bytes.specs.declared.Read.the-variants.{Sheet}
 use Rattle.sheet_room.specs.Room.{mostCells, mostRead}
-use Rattle.sheet_head.specs.Head.{Small, cellsOf}
-use Rattle.sheet_cells.specs.Cells.{valuesOf, codesOf}
-use Rattle.sheet_bytes.specs.Read.{readOf, answerOf, valuesIn, codesIn}
+use Rattle.sheet_bytes.specs.Read.{Small, cellsOf, valuesOf, codesOf, readOf, answerOf, valuesIn, codesIn}
 use Rattle.sheet_bytes.specs.Laws as read
 use Rattle.sheet_bytes.proofs.Stages as stages
 use Rattle.head_numbers.specs.Numbers.{termsOf}

@@ -20,7 +20,7 @@ use Rattle.tree.specs.Answer.{turnedBack}
 use Rattle.depth2.specs.Search.{answerOf, answerAfter, searchOf, searched, Progress}
 use Rattle.listing.specs.Listing.{listingOf, longest, writtenOf, outOf}
 use Rattle.certificate.proofs.Sentences.{certified}
-use Rattle.sheet_head.specs.declared.Head.{Head}
+use Rattle.sheet_bytes.specs.declared.Head.{Head}
 use Rattle.sheet_bytes.specs.declared.Read.{Read}
 use Rattle.sheet_bytes.specs.declared.Read.the-variants as read
 use Rattle.sheet_bytes.specs.Read.{readOf}

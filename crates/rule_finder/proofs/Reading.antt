@@ -23,9 +23,8 @@ use Rattle.prepare.specs.Prepared.{answerOf, inLimits, exactRoom, firstOutside}
 use Rattle.prepare.specs.Laws.{Taken}
 use Rattle.prepare.proofs.Answering.{by-columns, by-counts, stops-nowhere, answer-none}
 use Rattle.prepare.proofs.Acceptance.{never-refused}
-use Rattle.sheet_head.specs.declared.Head.{Head}
-use Rattle.sheet_head.specs.Head.{cellsOf, termsBad}
-use Rattle.sheet_cells.specs.Cells.{bitsOf, valueOf, codeOf, valuesOf, codesOf, codeBad}
+use Rattle.sheet_bytes.specs.declared.Head.{Head}
+use Rattle.sheet_bytes.specs.Read.{cellsOf, bitsOf, valueOf, codeOf, valuesOf, codesOf, termsBad, codeBad}
 use Rattle.sheet_bytes.specs.Laws as read
 use Rattle.sheet_bytes.proofs.Stages.{rows-inside, columns-inside, labels-inside, small-accepted, valued-accepted}
 use Rattle.head_numbers.specs.Numbers.{termsOf}

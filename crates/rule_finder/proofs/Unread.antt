@@ -13,16 +13,14 @@ use borrow.Author.Tests.{lt-ltb, le-ltb}
 use Rattle.basics.specs.Choice.{pick}
 use Rattle.basics.specs.Walk.{walk}
 use Rattle.basics.proofs.Choice.{order}
-use Rattle.sheet_head.specs.declared.Head.{Head}
+use Rattle.sheet_bytes.specs.declared.Head.{Head}
 use Rattle.sheet_bytes.specs.declared.Read.{Read}
 use Rattle.sheet_bytes.specs.declared.Read.the-variants.{Refused, Sheet}
-use Rattle.byte_numbers.specs.Bytes.{Mark, numberAt, marked, headMark, rowMark}
+use Rattle.sheet_bytes.specs.Bytes.{Mark, numberAt, marked, headMark, rowMark}
 use Rattle.sheet_bytes.specs.Reasons.{headWrong, sheetLarge, rowWrong, bytesLeft}
 use Rattle.sheet.specs.Reasons.{sizeOutside}
 use Rattle.sheet_room.specs.Room.{headSize, rowSize, largestSheet}
-use Rattle.sheet_head.specs.Head.{headOf, headBad, sizeBad, tooLarge, Small}
-use Rattle.sheet_cells.specs.Cells.{startOf, rowBad, further}
-use Rattle.sheet_bytes.specs.Read.{firstBad, fromTerms, fromEnd, fromRows, fromLarge, fromSize, readOf}
+use Rattle.sheet_bytes.specs.Read.{headOf, startOf, headBad, sizeBad, tooLarge, rowBad, further, firstBad, fromTerms, fromEnd, fromRows, fromLarge, fromSize, readOf, Small}
 use Rattle.sheet_bytes.proofs.Stages.{chosen, accepted, small-accepted, small-enough}
 use Rattle.rule_finder.specs.Run.{answerTo, runOf}
 use Rattle.rule_finder.specs.Laws.{NoneLonger, OneMoreSuffices}

@@ -10,7 +10,7 @@ use Rattle.tree.specs.declared.Answer.the-variants.{TurnedBack}
 use Rattle.tree.specs.Answer.{turnedBack}
 use Rattle.listing.specs.Listing.{listingOf, longest, writtenOf, outOf}
 use Rattle.certificate.specs.Certificate.{Certified}
-use Rattle.sheet_head.specs.declared.Head.{Head}
+use Rattle.sheet_bytes.specs.declared.Head.{Head}
 use Rattle.sheet_bytes.specs.declared.Read.the-variants.{Refused, Sheet}
 use Rattle.sheet_bytes.specs.Read.{readOf}
 use Rattle.sheet_room.specs.Room.{largestSheet}

@@ -7,13 +7,12 @@ use Rattle.tree.specs.declared.Answer.{Answer}
 use Rattle.tree.specs.declared.Answer.the-variants.{TurnedBack}
 use Rattle.depth2.specs.Search.{searchOf}
 use Rattle.prepare.specs.Laws.{preparedSheet}
-use Rattle.sheet_head.specs.declared.Head.{Head}
+use Rattle.sheet_bytes.specs.declared.Head.{Head}
 use Rattle.head_numbers.specs.Numbers.{termsOf}
 use Rattle.sheet_search.specs.Lent.{wordsLent}
 use Rattle.sheet_bytes.specs.declared.Read.{Read}
 use Rattle.sheet_bytes.specs.declared.Read.the-variants as read
-use Rattle.sheet_cells.specs.Cells.{valuesOf, codesOf}
-use Rattle.sheet_bytes.specs.Read.{readOf}
+use Rattle.sheet_bytes.specs.Read.{valuesOf, codesOf, readOf}
 
 -- "The preparer takes values only": the sheet that the bytes say, with the preparer's order, cuts and counts
 abbrev pub sheetRead : List ℕ → Head → Sheet

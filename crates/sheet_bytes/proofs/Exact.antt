@@ -13,14 +13,13 @@ use lib.Ieee.{Float, nan, binary64, ofBits, toBits, isNan}
 use lib.Ieee.Bits.{toBits-ofBits}
 use Rattle.basics.proofs.Choice.{nor-left, nor-right, and-left, and-right, order}
 use Rattle.basics.proofs.Lists.{getD-table}
-use Rattle.sheet_head.specs.declared.Head.{Head}
-use Rattle.byte_numbers.specs.Bytes.{byteAt, numberAt, marked, headMark, rowMark}
+use Rattle.sheet_bytes.specs.declared.Head.{Head}
+use Rattle.sheet_bytes.specs.Bytes.{byteAt, numberAt, marked, headMark, rowMark}
 use Rattle.sheet_room.specs.Room.{headSize, rowSize}
-use Rattle.sheet_head.specs.Head.{headOf, cellsOf, headBad, Small}
-use Rattle.sheet_cells.specs.Cells.{startOf, codeOf, cellAt, bitsOf, valueOf, valuesOf, codesOf, rowBad, further}
+use Rattle.sheet_bytes.specs.Read.{headOf, startOf, codeOf, cellsOf, cellAt, bitsOf, valueOf, valuesOf, codesOf, headBad, rowBad, further, Small}
 use Rattle.sheet_bytes.specs.Laws.{Accepted}
 use Rattle.sheet_bytes.specs.Encode.{bytesOf, inTurn, headBytes, rowBytes, encodeOf, Exact}
-use Rattle.byte_numbers.proofs.Numbers.{number-within}
+use Rattle.sheet_bytes.proofs.Numbers.{number-within}
 use Rattle.sheet_bytes.proofs.Stages.{accepted, small-accepted, valued-accepted}
 use Rattle.sheet_bytes.proofs.Places.{head-long, all-long, in-row, cell}
 use Rattle.sheet_bytes.proofs.Turns.{length-bytes, getD-turn}

@@ -7,10 +7,10 @@ use mathlib.Core.List.{List}
 use lib.ListN.{length, getD, length-append}
 use lib.Seq.{getD-append-add}
 use lib.Ieee.{Float, nan, binary64, toBits}
-use Rattle.sheet_head.specs.declared.Head.{Head}
-use Rattle.byte_numbers.specs.Bytes.{byteAt}
+use Rattle.sheet_bytes.specs.declared.Head.{Head}
+use Rattle.sheet_bytes.specs.Bytes.{byteAt}
 use Rattle.sheet_room.specs.Room.{headSize, rowSize}
-use Rattle.sheet_cells.specs.Cells.{startOf}
+use Rattle.sheet_bytes.specs.Read.{startOf}
 use Rattle.sheet_bytes.specs.Encode.{bytesOf, inTurn, headBytes, rowBytes, encodeOf}
 use Rattle.sheet_bytes.proofs.Turns.{length-bytes, length-turn, getD-turn}
 

@@ -17,15 +17,13 @@ use Rattle.basics.proofs.Lists.{getD-table, length-table}
 use Rattle.sheet.specs.Limits.{mostSupport, mostError}
 use Rattle.threshold.specs.Threshold.{within}
 use Rattle.threshold.specs.Laws.{Measured}
-use Rattle.sheet_head.specs.declared.Head.{Head}
-use Rattle.byte_numbers.specs.Bytes.{byteAt, numberAt, marked, headMark, rowMark}
+use Rattle.sheet_bytes.specs.declared.Head.{Head}
+use Rattle.sheet_bytes.specs.Bytes.{byteAt, numberAt, marked, headMark, rowMark}
 use Rattle.sheet_room.specs.Room.{headSize, rowSize}
-use Rattle.sheet_head.specs.Head.{headOf, cellsOf, headBad, termsBad}
-use Rattle.sheet_cells.specs.Cells.{startOf, codeOf, cellAt, bitsOf, valueOf, valuesOf, codesOf, rowBad, further, valueBad, codeBad}
+use Rattle.sheet_bytes.specs.Read.{headOf, startOf, codeOf, cellsOf, cellAt, bitsOf, valueOf, valuesOf, codesOf, headBad, rowBad, further, termsBad, valueBad, codeBad}
 use Rattle.sheet_bytes.specs.Laws.{Accepted}
 use Rattle.sheet_bytes.specs.Encode.{bytesOf, headBytes, rowBytes, encodeOf, Within, RoundTrip}
-use Rattle.sheet_cells.proofs.Places.{in-rows, in-columns}
-use Rattle.sheet_head.proofs.Numbers.{seven}
+use Rattle.sheet_bytes.proofs.Numbers.{seven, in-rows, in-columns}
 use Rattle.sheet_bytes.proofs.Stages.{rows-inside, columns-inside, labels-inside, accepts}
 use Rattle.sheet_bytes.proofs.Turns.{number-back}
 use Rattle.sheet_bytes.proofs.Places.{past-header, all-long, in-row, in-cell}
@@ -41,7 +39,7 @@ four-bytes n h = omega arith
 one-byte : (n : ℕ) → n < 256 → n % 256 + 256 * 0 ≡ n
 one-byte n h = omega arith
 
-module _ (h : Head) (values : List Float) (codes : List ℕ) (w : Within h values codes) where
+abbrev module _ (h : Head) (values : List Float) (codes : List ℕ) (w : Within h values codes) where
   abbrev bytes : List ℕ
   bytes = encodeOf h values codes
 

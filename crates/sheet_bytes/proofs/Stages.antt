@@ -11,17 +11,15 @@ use Rattle.threshold.specs.Threshold.{within}
 use Rattle.basics.specs.Walk.{walk}
 use Rattle.basics.proofs.Choice.{nor-left, nor-right}
 use Rattle.sheet.specs.Limits.{mostRows, mostColumns, mostLabels}
-use Rattle.sheet_head.specs.declared.Head.{Head}
+use Rattle.sheet_bytes.specs.declared.Head.{Head}
 use Rattle.sheet_bytes.specs.declared.Read.{Read}
 use Rattle.sheet_bytes.specs.declared.Read.the-variants.{Refused, Sheet}
 use Rattle.sheet.specs.Reasons.{sizeOutside, termAbove, valueOutside, labelHigh}
 use Rattle.sheet_room.specs.Room.{mostRead, mostCells}
 use Rattle.sheet_bytes.specs.Reasons.{headWrong, sheetLarge, rowWrong, bytesLeft}
-use Rattle.sheet_head.specs.Head.{headOf, cellsOf, headBad, outside, sizeBad, tooLarge, termsBad, Small}
-use Rattle.sheet_cells.specs.Cells.{rowBad, further, valueBad, codeBad, Valued, valueOf}
-use Rattle.sheet_bytes.specs.Read.{firstBad, fromCodes, fromValues, fromTerms, fromEnd, fromRows, fromLarge, fromSize, readOf}
+use Rattle.sheet_bytes.specs.Read.{headOf, cellsOf, headBad, outside, sizeBad, tooLarge, rowBad, further, termsBad, valueBad, codeBad, firstBad, fromCodes, fromValues, fromTerms, fromEnd, fromRows, fromLarge, fromSize, readOf, Small, Valued, valueOf}
 use Rattle.sheet_bytes.specs.Laws.{Accepted, Accepts}
-use Rattle.sheet_rows.proofs.Find.{none-bad, ends}
+use Rattle.sheet_bytes.proofs.Find.{none-bad, ends}
 
 -- ---- one test
 

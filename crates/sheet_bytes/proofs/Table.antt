@@ -5,10 +5,8 @@ use lib.Ieee.{ofBits, lt, eq, le}
 use Rattle.basics.specs.Choice.{pick}
 use Rattle.basics.specs.Walk.{walk}
 use Rattle.threshold.specs.Threshold.{within}
-use Rattle.byte_numbers.specs.Bytes.{numberAt, marked}
-use Rattle.sheet_head.specs.Head.{headOf, headBad, outside, sizeBad, tooLarge, termsBad}
-use Rattle.sheet_cells.specs.Cells.{startOf, codeOf, cellAt, bitsOf, valueOf, rowBad, further, valueBad, codeBad}
-use Rattle.sheet_bytes.specs.Read.{firstBad, fromCodes, fromValues, fromTerms, fromEnd, fromRows, fromLarge, fromSize, readOf}
+use Rattle.sheet_bytes.specs.Bytes.{numberAt, marked}
+use Rattle.sheet_bytes.specs.Read.{headOf, startOf, codeOf, cellAt, bitsOf, valueOf, headBad, outside, sizeBad, tooLarge, rowBad, further, termsBad, valueBad, codeBad, firstBad, fromCodes, fromValues, fromTerms, fromEnd, fromRows, fromLarge, fromSize, readOf}
 use Rattle.sheet_bytes.specs.Table.{Entry, tableR}
 
 pub table-r : map (λ (e : Entry). readOf (e .bytes)) tableR ≡ map (λ (e : Entry). e .answer) tableR

@@ -6,7 +6,7 @@ use native.Mathlib.Nat.{zero-mul, suc-mul, zero-add, add-zero, add-assoc, add-co
 use mathlib.Core.List.{List}
 use lib.ListN.{length, getD, length-append, List·getD-append}
 use lib.Seq.{getD-append-add}
-use Rattle.byte_numbers.specs.Bytes.{byteAt, numberAt}
+use Rattle.sheet_bytes.specs.Bytes.{byteAt, numberAt}
 use Rattle.sheet_bytes.specs.Encode.{bytesOf, inTurn}
 
 pub length-bytes : (width n : ℕ) → length (bytesOf width n) ≡ width

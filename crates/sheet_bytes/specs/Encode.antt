@@ -7,12 +7,10 @@ use lib.ListN.{length, getD}
 use lib.Dec.{T}
 use lib.Ieee.{Float, nan, binary64, toBits}
 use Rattle.threshold.specs.Laws.{Measured}
-use Rattle.sheet_head.specs.declared.Head.{Head}
+use Rattle.sheet_bytes.specs.declared.Head.{Head}
 use Rattle.sheet_bytes.specs.declared.Read.the-variants.{Sheet}
-use Rattle.byte_numbers.specs.Bytes.{headMark, rowMark}
-use Rattle.sheet_head.specs.Head.{cellsOf, sizeBad, tooLarge, termsBad}
-use Rattle.sheet_cells.specs.Cells.{valuesOf, codesOf}
-use Rattle.sheet_bytes.specs.Read.{readOf}
+use Rattle.sheet_bytes.specs.Bytes.{headMark, rowMark}
+use Rattle.sheet_bytes.specs.Read.{cellsOf, sizeBad, tooLarge, termsBad, readOf, valuesOf, codesOf}
 
 -- "little-endian": a number in `width` bytes, the least first
 abbrev pub bytesOf : ℕ → ℕ → List ℕ

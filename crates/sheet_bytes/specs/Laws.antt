@@ -4,11 +4,9 @@ use Prim.Native.Nat.{ℕ, _<_}
 use mathlib.Core.Bool.{not}
 use mathlib.Core.List.{List}
 use lib.Dec.{T}
-use Rattle.sheet_head.specs.declared.Head.{Head}
+use Rattle.sheet_bytes.specs.declared.Head.{Head}
 use Rattle.sheet_bytes.specs.declared.Read.the-variants.{Sheet}
-use Rattle.sheet_head.specs.Head.{headOf, cellsOf, headBad, sizeBad, tooLarge, termsBad}
-use Rattle.sheet_cells.specs.Cells.{rowBad, further, valueBad, codeBad}
-use Rattle.sheet_bytes.specs.Read.{readOf}
+use Rattle.sheet_bytes.specs.Read.{headOf, cellsOf, headBad, sizeBad, tooLarge, rowBad, further, termsBad, valueBad, codeBad, readOf}
 
 -- no reason's condition holds, anywhere
 pub record Accepted (bytes : List ℕ) (h : Head) : Type 0 where

@@ -1,20 +1,106 @@
--- When a sheet's bytes are refused and why, in the order of the reasons, and what is left in lent memory (document 01, "Program (added)"). Definitions only.
-use Prim.Native.Nat.{ℕ}
-use mathlib.Core.Bool.{Bool, _||_}
+-- What a sheet's bytes say, and when they are refused (document 01, "Program (added)"). Definitions only.
+use Prim.Native.Nat.{ℕ, suc, _+_, _*_, _/_, _%_, _≤_, _<_}
+use mathlib.Core.Bool.{Bool, not, _||_}
 use mathlib.Core.List.{List, _++_}
-use lib.ListN.{drop}
-use lib.Dec.{ltb}
-use lib.Ieee.{Float}
+use lib.ListN.{length, drop}
+use lib.Dec.{T, leb, ltb}
+use lib.Ieee.{Float, binary64, ofBits}
 use Rattle.basics.specs.Choice.{pick}
+use Rattle.basics.specs.Lists.{table}
 use Rattle.basics.specs.Walk.{walk}
-use Rattle.sheet.specs.Reasons.{sizeOutside, termAbove, valueOutside, labelHigh, scratchShort}
-use Rattle.sheet_room.specs.Room.{mostRead, mostCells}
-use Rattle.sheet_head.specs.declared.Head.{Head}
-use Rattle.sheet_head.specs.Head.{headOf, cellsOf, headBad, sizeBad, tooLarge, termsBad}
-use Rattle.sheet_cells.specs.Cells.{valuesOf, codesOf, rowBad, further, valueBad, codeBad}
+use Rattle.threshold.specs.Threshold.{within}
+use Rattle.sheet.specs.Limits.{mostRows, mostColumns, mostLabels, mostSupport, mostError}
+use Rattle.sheet_bytes.specs.declared.Head.{Head}
 use Rattle.sheet_bytes.specs.declared.Read.{Read}
 use Rattle.sheet_bytes.specs.declared.Read.the-variants.{Refused, Sheet}
+use Rattle.sheet_bytes.specs.Bytes.{byteAt, numberAt, marked, headMark, rowMark}
+use Rattle.sheet.specs.Reasons.{sizeOutside, termAbove, valueOutside, labelHigh, scratchShort}
+use Rattle.sheet_room.specs.Room.{headSize, rowSize, mostRead, mostCells}
 use Rattle.sheet_bytes.specs.Reasons.{headWrong, sheetLarge, rowWrong, bytesLeft}
+
+-- ---- where each number stands
+
+-- "`HD`: rows u16, columns u8, labels u8, support u16, gap u32, error u32, bound u32."
+unfoldable pub headOf : List ℕ → Head
+headOf bytes =
+    record {
+      rows = numberAt 2 bytes 2;
+      columns = numberAt 1 bytes 4;
+      labels = numberAt 1 bytes 5;
+      support = numberAt 2 bytes 6;
+      gap = numberAt 4 bytes 8;
+      error = numberAt 4 bytes 12;
+      bound = numberAt 4 bytes 16;
+    }
+
+-- "Then per row `RW`: label u8, then the columns' f64 bits."
+-- where a row's record starts; that of the row past the last is the end
+unfoldable pub startOf : ℕ → ℕ → ℕ
+startOf columns row = headSize + row * rowSize columns
+
+-- a row's label code
+unfoldable pub codeOf : List ℕ → Head → ℕ → ℕ
+codeOf bytes h row = byteAt bytes (startOf (h .columns) row + 2)
+
+-- how many values there are
+abbrev pub cellsOf : Head → ℕ
+cellsOf h = h .columns * h .rows
+
+-- "Value of row r in column c lies at c·rows+r." So the value at an index is that of row index % rows in column index / rows: where its bits stand
+unfoldable pub cellAt : Head → ℕ → ℕ
+cellAt h index = startOf (h .columns) (index % h .rows) + 3 + 8 * (index / h .rows)
+
+unfoldable pub bitsOf : List ℕ → Head → ℕ → ℕ
+bitsOf bytes h index = numberAt 8 bytes (cellAt h index)
+
+-- a NaN's bits, of which there are many, are `nan`
+unfoldable pub valueOf : List ℕ → Head → ℕ → Float
+valueOf bytes h index = ofBits binary64 (bitsOf bytes h index)
+
+-- the values and the label codes, as a sheet has them
+unfoldable pub valuesOf : List ℕ → Head → List Float
+valuesOf bytes h = table (valueOf bytes h) (cellsOf h)
+
+unfoldable pub codesOf : List ℕ → Head → List ℕ
+codesOf bytes h = table (codeOf bytes h) (h .rows)
+
+-- ---- one test per reason and place
+
+-- 20: "header short or mismarked"
+unfoldable pub headBad : List ℕ → Bool
+headBad bytes = ltb (length bytes) headSize || not (marked headMark bytes 0)
+
+-- 1: "rows, columns or labels outside limits"
+unfoldable pub outside : ℕ → ℕ → Bool
+outside most n = ltb n 1 || ltb most n
+
+unfoldable pub sizeBad : Head → Bool
+sizeBad h = outside mostRows (h .rows) || (outside mostColumns (h .columns) || outside mostLabels (h .labels))
+
+-- 21: "more than 2,048 rows or 8,192 cells"
+unfoldable pub tooLarge : Head → Bool
+tooLarge h = ltb mostRead (h .rows) || ltb mostCells (cellsOf h)
+
+-- 22: "row short or mismarked"
+unfoldable pub rowBad : List ℕ → Head → ℕ → Bool
+rowBad bytes h row =
+    ltb (length bytes) (startOf (h .columns) (suc row)) || not (marked rowMark bytes (startOf (h .columns) row))
+
+-- 23: "further bytes"
+unfoldable pub further : List ℕ → Head → Bool
+further bytes h = ltb (startOf (h .columns) (h .rows)) (length bytes)
+
+-- 4: "support, gap, error or bound above its limit"
+unfoldable pub termsBad : Head → Bool
+termsBad h = ltb mostSupport (h .support) || (ltb mostError (h .gap) || (ltb mostError (h .error) || ltb mostError (h .bound)))
+
+-- 5: "value not finite or too large"
+unfoldable pub valueBad : List ℕ → Head → ℕ → Bool
+valueBad bytes h index = not (within (valueOf bytes h index))
+
+-- 6: "label code too high"
+unfoldable pub codeBad : List ℕ → Head → ℕ → Bool
+codeBad bytes h row = leb (h .labels) (codeOf bytes h row)
 
 -- ---- "Order: 20, 1, 21, 22, 23, 4, 5, 6."
 
@@ -45,6 +131,17 @@ fromSize bytes h = pick (sizeBad h) (Refused sizeOutside 0) (fromLarge bytes h)
 
 unfoldable pub readOf : List ℕ → Read
 readOf bytes = pick (headBad bytes) (Refused headWrong 0) (fromSize bytes (headOf bytes))
+
+-- ---- a sheet that is neither empty nor too large: what the reading of its rows goes by
+pub record Small (h : Head) : Type 0 where
+  pub rows-some : 1 ≤ h .rows
+  pub rows-most : h .rows ≤ mostRead
+  pub columns-most : h .columns ≤ mostColumns
+  pub cells-most : cellsOf h ≤ mostCells
+
+-- all its values are finite and not too large
+abbrev pub Valued : List ℕ → Head → Type 0
+Valued bytes h = (index : ℕ) → index < cellsOf h → T (within (valueOf bytes h index))
 
 -- ---- the reading into lent memory
 

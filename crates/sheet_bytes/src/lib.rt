@@ -1,32 +1,61 @@
 // A sheet's bytes, read into lent memory. Everything is checked before anything is written.
 use sheet::LABEL_HIGH;
+use sheet::MOST_COLUMNS;
+use sheet::MOST_ERROR;
+use sheet::MOST_LABELS;
+use sheet::MOST_ROWS;
+use sheet::MOST_SUPPORT;
 use sheet::SCRATCH_SHORT;
 use sheet::SIZE_OUTSIDE;
 use sheet::TERM_ABOVE;
 use sheet::VALUE_OUTSIDE;
-use sheet_cells::has_further;
-use sheet_head::Head;
-use sheet_head::head_bad;
-use sheet_head::head_of;
-use sheet_head::size_bad;
-use sheet_head::terms_bad;
-use sheet_head::too_large;
+use sheet_room::HEAD_SIZE;
 use sheet_room::MOST_CELLS;
 use sheet_room::MOST_READ;
-use sheet_rows::fill_codes;
-use sheet_rows::fill_values;
-use sheet_rows::first_bad_code;
-use sheet_rows::first_bad_row;
-use sheet_rows::first_bad_value;
+use sheet_room::ROW_FIXED;
+use sheet_room::VALUE_SIZE;
 ghost use mathlib.Core.Path.{_≡_};
+ghost use Prim.Native.Nat.{_+_, _*_, _%_, _/_, _^_, _≤_, _<_};
 ghost use lib.ListN.{length};
-ghost use Rattle.sheet_head.specs.Head.{Small};
-ghost use Rattle.sheet_bytes.specs.Read.{fromTerms, readOf, answerOf, valuesIn, codesIn};
+ghost use lib.Seq.{sets};
+ghost use lib.Ieee.{binary64, ofBits};
+ghost use Rattle.basics.specs.Walk.{walk};
+ghost use Rattle.threshold.specs.Threshold.{within};
+ghost use Rattle.sheet_bytes.specs.Bytes.{byteAt, numberAt, marked};
+ghost use Rattle.sheet_bytes.specs.Read.{headOf, startOf, codeOf, cellsOf, cellAt, valuesOf, codesOf, headBad, outside, sizeBad, tooLarge, rowBad, further, termsBad, valueBad, codeBad, fromTerms, readOf, Small, Valued, answerOf, valuesIn, codesIn};
+
+// The numbers of the header.
+pub struct Head {
+    pub rows: usize,
+    pub columns: usize,
+    pub labels: usize,
+    pub support: u32,
+    pub gap: u32,
+    pub error: u32,
+    pub bound: u32,
+}
 
 pub enum Read {
     Refused { number: u32, place: usize },
     Sheet { head: Head },
 }
+
+// Where the header's numbers begin, after its two mark bytes, and where a row's label code stands.
+const ROWS_AT: usize = 2;
+
+const COLUMNS_AT: usize = 4;
+
+const LABELS_AT: usize = 5;
+
+const SUPPORT_AT: usize = 6;
+
+const GAP_AT: usize = 8;
+
+const ERROR_AT: usize = 12;
+
+const BOUND_AT: usize = 16;
+
+const CODE_PLACE: usize = 2;
 
 const HEAD_WRONG: u32 = 20;
 
@@ -35,6 +64,244 @@ const SHEET_LARGE: u32 = 21;
 const ROW_WRONG: u32 = 22;
 
 const BYTES_LEFT: u32 = 23;
+
+// An infinity's bits without its sign: those above are a NaN's.
+const INFINITE: u64 = 0x7FF0_0000_0000_0000;
+
+const SIGN: u64 = 0x8000_0000_0000_0000;
+
+fn byte_at(bytes: &[u8], at: usize) -> u64
+    ensures value { λ r. ⌜ r ≡ byteAt (now (bytes .entry)) at ⌝ }
+    ensures byte { λ r. ⌜ r < 256 ⌝ }
+{
+    if at < bytes.len() {
+        bytes[at] as u64
+    } else {
+        0
+    }
+}
+
+fn pair_at(bytes: &[u8], at: usize) -> u64
+    requires { ⌜ at < 2 ^ 32 ⌝ }
+    ensures value { λ r. ⌜ r ≡ numberAt 2 (now (bytes .entry)) at ⌝ }
+    ensures wide { λ r. ⌜ r < 2 ^ 16 ⌝ }
+{
+    let low = byte_at(bytes, at);
+    let high = byte_at(bytes, at + 1);
+    low + 256 * high
+}
+
+fn quad_at(bytes: &[u8], at: usize) -> u64
+    requires { ⌜ at < 2 ^ 31 ⌝ }
+    ensures value { λ r. ⌜ r ≡ numberAt 4 (now (bytes .entry)) at ⌝ }
+    ensures wide { λ r. ⌜ r < 2 ^ 32 ⌝ }
+{
+    let low = pair_at(bytes, at);
+    let high = pair_at(bytes, at + 2);
+    low + 65536 * high
+}
+
+fn bits_at(bytes: &[u8], at: usize) -> u64
+    requires { ⌜ at < 2 ^ 30 ⌝ }
+    ensures { λ r. ⌜ r ≡ numberAt 8 (now (bytes .entry)) at ⌝ }
+{
+    let low = quad_at(bytes, at);
+    let high = quad_at(bytes, at + 4);
+    low + 4294967296 * high
+}
+
+fn is_marked(bytes: &[u8], at: usize, first: u8, second: u8) -> bool
+    requires { ⌜ at < 2 ^ 32 ⌝ }
+    ensures { λ r. ⌜ r ≡ marked (record { first = first; second = second }) (now (bytes .entry)) at ⌝ }
+{
+    if byte_at(bytes, at) == first as u64 {
+        byte_at(bytes, at + 1) == second as u64
+    } else {
+        false
+    }
+}
+
+fn head_of(bytes: &[u8]) -> Head
+    ensures { λ r. ⌜ r ≡ headOf (now (bytes .entry)) ⌝ }
+{
+    Head {
+        rows: pair_at(bytes, ROWS_AT) as usize,
+        columns: byte_at(bytes, COLUMNS_AT) as usize,
+        labels: byte_at(bytes, LABELS_AT) as usize,
+        support: pair_at(bytes, SUPPORT_AT) as u32,
+        gap: quad_at(bytes, GAP_AT) as u32,
+        error: quad_at(bytes, ERROR_AT) as u32,
+        bound: quad_at(bytes, BOUND_AT) as u32,
+    }
+}
+
+fn head_bad(bytes: &[u8]) -> bool
+    ensures { λ r. ⌜ r ≡ headBad (now (bytes .entry)) ⌝ }
+{
+    if bytes.len() < HEAD_SIZE {
+        true
+    } else {
+        !is_marked(bytes, 0, b'H', b'D')
+    }
+}
+
+fn is_outside(most: usize, n: usize) -> bool
+    ensures { λ r. ⌜ r ≡ outside most n ⌝ }
+{
+    if n < 1 { true } else { most < n }
+}
+
+fn size_bad(head: Head) -> bool
+    ensures { λ r. ⌜ r ≡ sizeBad head ⌝ }
+{
+    if is_outside(MOST_ROWS, head.rows) {
+        true
+    } else if is_outside(MOST_COLUMNS, head.columns) {
+        true
+    } else {
+        is_outside(MOST_LABELS, head.labels)
+    }
+}
+
+fn too_large(head: Head) -> bool
+    requires { ⌜ head .columns ≤ 16 ⌝ }
+    ensures { λ r. ⌜ r ≡ tooLarge head ⌝ }
+{
+    if MOST_READ < head.rows {
+        true
+    } else {
+        MOST_CELLS < head.columns * head.rows
+    }
+}
+
+fn terms_bad(head: Head) -> bool
+    ensures { λ r. ⌜ r ≡ termsBad head ⌝ }
+{
+    if MOST_SUPPORT < head.support {
+        true
+    } else if MOST_ERROR < head.gap {
+        true
+    } else if MOST_ERROR < head.error {
+        true
+    } else {
+        MOST_ERROR < head.bound
+    }
+}
+
+fn start_of(columns: usize, row: usize) -> usize
+    requires { ⌜ (columns ≤ 16) × (row ≤ 2048) ⌝ }
+    ensures place { λ r. ⌜ r ≡ startOf columns row ⌝ }
+    ensures low { λ r. ⌜ r ≤ 268308 ⌝ }
+{
+    HEAD_SIZE + row * (ROW_FIXED + VALUE_SIZE * columns)
+}
+
+fn row_bad(bytes: &[u8], head: Head, row: usize) -> bool
+    requires { ⌜ Small head × (row < head .rows) ⌝ }
+    ensures { λ r. ⌜ r ≡ rowBad (now (bytes .entry)) head row ⌝ }
+{
+    if bytes.len() < start_of(head.columns, row + 1) {
+        true
+    } else {
+        !is_marked(bytes, start_of(head.columns, row), b'R', b'W')
+    }
+}
+
+// The first row that is short or mismarked; the number of rows if there is none.
+fn first_bad_row(bytes: &[u8], head: Head) -> usize
+    requires { ⌜ Small head ⌝ }
+    ensures { λ r. ⌜ r ≡ walk (rowBad (now (bytes .entry)) head) (head .rows) 0 ⌝ }
+{
+    let mut row: usize = 0;
+    while row < head.rows {
+        if row_bad(bytes, head, row) {
+            return row;
+        }
+        row += 1;
+    }
+    row
+}
+
+fn has_further(bytes: &[u8], head: Head) -> bool
+    requires { ⌜ Small head ⌝ }
+    ensures { λ r. ⌜ r ≡ further (now (bytes .entry)) head ⌝ }
+{
+    start_of(head.columns, head.rows) < bytes.len()
+}
+
+// Where the bits of a value stand.
+fn cell_at(head: Head, index: usize) -> usize
+    requires { ⌜ Small head × (index < cellsOf head) ⌝ }
+    ensures place { λ r. ⌜ r ≡ cellAt head index ⌝ }
+    ensures low { λ r. ⌜ r < 2 ^ 30 ⌝ }
+{
+    let row = index % head.rows;
+    let column = index / head.rows;
+    start_of(head.columns, row) + ROW_FIXED + VALUE_SIZE * column
+}
+
+// A NaN is refused by its bits: no float is made of it.
+fn bits_within(bits: u64) -> bool
+    ensures { λ r. ⌜ r ≡ within (ofBits binary64 bits) ⌝ }
+{
+    if INFINITE < bits % SIGN {
+        false
+    } else {
+        threshold::in_range(f64::from_bits(bits))
+    }
+}
+
+fn value_bad(bytes: &[u8], head: Head, index: usize) -> bool
+    requires { ⌜ Small head × (index < cellsOf head) ⌝ }
+    ensures { λ r. ⌜ r ≡ valueBad (now (bytes .entry)) head index ⌝ }
+{
+    !bits_within(bits_at(bytes, cell_at(head, index)))
+}
+
+// The index of the first value that is not finite or too large; the number of values if there is none.
+fn first_bad_value(bytes: &[u8], head: Head) -> usize
+    requires { ⌜ Small head ⌝ }
+    ensures { λ r. ⌜ r ≡ walk (valueBad (now (bytes .entry)) head) (cellsOf head) 0 ⌝ }
+{
+    let cells = head.columns * head.rows;
+    let mut index: usize = 0;
+    while index < cells {
+        if value_bad(bytes, head, index) {
+            return index;
+        }
+        index += 1;
+    }
+    index
+}
+
+fn code_at(bytes: &[u8], head: Head, row: usize) -> u8
+    requires { ⌜ Small head × (row < head .rows) ⌝ }
+    ensures { λ r. ⌜ r ≡ codeOf (now (bytes .entry)) head row ⌝ }
+{
+    byte_at(bytes, start_of(head.columns, row) + CODE_PLACE) as u8
+}
+
+fn code_bad(bytes: &[u8], head: Head, row: usize) -> bool
+    requires { ⌜ Small head × (row < head .rows) ⌝ }
+    ensures { λ r. ⌜ r ≡ codeBad (now (bytes .entry)) head row ⌝ }
+{
+    head.labels <= code_at(bytes, head, row) as usize
+}
+
+// The first row whose label code is too high; the number of rows if there is none.
+fn first_bad_code(bytes: &[u8], head: Head) -> usize
+    requires { ⌜ Small head ⌝ }
+    ensures { λ r. ⌜ r ≡ walk (codeBad (now (bytes .entry)) head) (head .rows) 0 ⌝ }
+{
+    let mut row: usize = 0;
+    while row < head.rows {
+        if code_bad(bytes, head, row) {
+            return row;
+        }
+        row += 1;
+    }
+    row
+}
 
 // Reasons 4, 5 and 6.
 fn check_cells(bytes: &[u8], head: Head) -> Read
@@ -101,6 +368,30 @@ fn check_sheet(bytes: &[u8]) -> Read
         };
     }
     check_cells(bytes, head)
+}
+
+fn fill_values(bytes: &[u8], head: Head, values: &mut [f64])
+    requires { ⌜ Small head × (cellsOf head ≤ length (now values)) × Valued (now bytes) head ⌝ }
+    ensures { λ _. ⌜ now (values .exit) ≡ sets (now (values .entry)) 0 (valuesOf (now (bytes .entry)) head) ⌝ }
+{
+    let cells = head.columns * head.rows;
+    let mut index: usize = 0;
+    while index < cells {
+        let bits = bits_at(bytes, cell_at(head, index));
+        values[index] = f64::from_bits(bits);
+        index += 1;
+    }
+}
+
+fn fill_codes(bytes: &[u8], head: Head, codes: &mut [u8])
+    requires { ⌜ Small head × (head .rows ≤ length (now codes)) ⌝ }
+    ensures { λ _. ⌜ now (codes .exit) ≡ sets (now (codes .entry)) 0 (codesOf (now (bytes .entry)) head) ⌝ }
+{
+    let mut row: usize = 0;
+    while row < head.rows {
+        codes[row] = code_at(bytes, head, row);
+        row += 1;
+    }
 }
 
 // The header's numbers, with the values and the label codes at the start of the lent memory; or why the bytes are refused, and then nothing

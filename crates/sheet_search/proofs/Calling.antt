@@ -12,7 +12,7 @@ use Rattle.prepare.specs.declared.Prepared.{Prepared}
 use Rattle.prepare.specs.declared.Prepared.the-variants.{Done}
 use Rattle.prepare.specs.Prepared.{orderList, cutList, countList, answerOf, leaves, PreparedOf}
 use Rattle.prepare.specs.Laws.{preparedSheet}
-use Rattle.sheet_head.specs.declared.Head.{Head}
+use Rattle.sheet_bytes.specs.declared.Head.{Head}
 use Rattle.head_numbers.specs.Numbers.{sizeOf, termsOf}
 
 -- a preparer that does not turn back leaves its lists

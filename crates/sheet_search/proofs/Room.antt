@@ -9,7 +9,7 @@ use lib.Ieee.{Float}
 use Rattle.sheet.specs.Limits.{mostColumns}
 use Rattle.prepare.specs.declared.Prepared.the-variants.{Done}
 use Rattle.prepare.specs.Prepared.{answerOf}
-use Rattle.sheet_head.specs.declared.Head.{Head}
+use Rattle.sheet_bytes.specs.declared.Head.{Head}
 use Rattle.sheet_room.specs.Room.{mostCells}
 use Rattle.sheet_search.specs.Lent.{Prepares}
 

@@ -8,8 +8,8 @@ use Rattle.sheet.specs.Limits.{wordsPerRow}
 use Rattle.prepare.specs.declared.Prepared.the-variants.{Done}
 use Rattle.prepare.specs.Prepared.{answerOf}
 use Rattle.sheet_room.specs.Room.{mostRead}
-use Rattle.sheet_head.specs.declared.Head.{Head}
-use Rattle.sheet_head.specs.Head.{Small, cellsOf}
+use Rattle.sheet_bytes.specs.declared.Head.{Head}
+use Rattle.sheet_bytes.specs.Read.{Small, cellsOf}
 
 -- "Scratch has at least 8 u32 words per row.": enough for the largest sheet, whatever the sheet
 abbrev pub wordsLent : ℕ

@@ -10,7 +10,7 @@ ghost use Rattle.sheet_search.specs.Lent.{wordsLent, Prepares};
 use head_numbers::size_of;
 use head_numbers::terms_of;
 use sheet::MOST_COLUMNS;
-use sheet_head::Head;
+use sheet_bytes::Head;
 use sheet_room::MOST_CELLS;
 use tree::Answer;
 

@@ -3,9 +3,7 @@ use mathlib.Core.Path.{sym, _∙_}
 use borrow.Author.Needs.{needs}
 use Rattle.sheet_bytes.specs.declared.Read.the-variants.{Refused, Sheet}
 use Rattle.sheet.specs.Reasons.{termAbove, valueOutside, labelHigh}
-use Rattle.sheet_head.specs.Head.{cellsOf, termsBad}
-use Rattle.sheet_cells.specs.Cells.{valueBad, codeBad}
-use Rattle.sheet_bytes.specs.Read.{fromCodes, fromValues, fromTerms}
+use Rattle.sheet_bytes.specs.Read.{cellsOf, termsBad, valueBad, codeBad, fromCodes, fromValues, fromTerms}
 use Rattle.sheet_bytes.proofs.Stages.{chosen, passed, found-bad, found-none}
 use Rattle.sheet_bytes.proofs.check_cells.Statement.{statement}
 use Rattle.sheet_bytes.proofs.check_cells.Tie as tie

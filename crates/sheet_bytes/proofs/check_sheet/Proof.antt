@@ -4,9 +4,7 @@ use borrow.Author.Needs.{needs}
 use Rattle.sheet_bytes.specs.declared.Read.the-variants.{Refused}
 use Rattle.sheet.specs.Reasons.{sizeOutside}
 use Rattle.sheet_bytes.specs.Reasons.{headWrong, sheetLarge, rowWrong, bytesLeft}
-use Rattle.sheet_head.specs.Head.{headOf, headBad, sizeBad, tooLarge}
-use Rattle.sheet_cells.specs.Cells.{rowBad, further}
-use Rattle.sheet_bytes.specs.Read.{fromTerms, fromEnd, fromRows, fromLarge, fromSize, readOf}
+use Rattle.sheet_bytes.specs.Read.{headOf, headBad, sizeBad, tooLarge, rowBad, further, fromTerms, fromEnd, fromRows, fromLarge, fromSize, readOf}
 use Rattle.sheet_bytes.proofs.Stages.{chosen, passed, found-bad, found-none, columns-most, small}
 use Rattle.sheet_bytes.proofs.check_sheet.Statement.{statement}
 use Rattle.sheet_bytes.proofs.check_sheet.Tie as tie

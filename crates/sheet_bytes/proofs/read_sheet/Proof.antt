@@ -9,11 +9,9 @@ use borrow.Author.Tests.{lt-ltb, le-ltb}
 use Rattle.sheet_bytes.specs.declared.Read.the-variants.{Refused}
 use Rattle.sheet.specs.Reasons.{scratchShort}
 use Rattle.sheet_room.specs.Room.{mostRead, mostCells}
-use Rattle.sheet_head.specs.Head.{cellsOf}
-use Rattle.sheet_cells.specs.Cells.{valueOf, codeOf, valuesOf, codesOf}
-use Rattle.sheet_bytes.specs.Read.{readOf, answerOf, valuesIn, codesIn}
-use Rattle.byte_numbers.proofs.Tests.{or-yes, or-no}
-use Rattle.sheet_rows.proofs.Stores.{in-front}
+use Rattle.sheet_bytes.specs.Read.{cellsOf, readOf, valueOf, codeOf, valuesOf, codesOf, answerOf, valuesIn, codesIn}
+use Rattle.sheet_bytes.proofs.Numbers.{or-yes, or-no}
+use Rattle.sheet_bytes.proofs.Stores.{in-front}
 use Rattle.sheet_bytes.proofs.Stages.{chosen, passed, accepted, small-accepted, valued-accepted}
 use Rattle.sheet_bytes.proofs.read_sheet.Statement.{statement}
 use Rattle.sheet_bytes.proofs.read_sheet.Tie as tie

@@ -1,3 +1,0 @@
--- Laws that the functions' proofs cite, here and in the crates above.
-pub mod Find
-pub mod Stores
