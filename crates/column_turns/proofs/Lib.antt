@@ -1,4 +1,5 @@
 -- Laws of a column's turns, for other crates to cite.
+pub mod Queueing
 pub mod Places
 pub mod Steps
 pub mod Turns

@@ -21,10 +21,10 @@ use Rattle.interval_steps.specs.declared.Standing.{Standing}
 use Rattle.column_turns.specs.declared.Course.{Course}
 use Rattle.cut_try.specs.Lent.{ringOf, Enough, Became}
 use Rattle.cut_try.specs.Try.{columnOf}
-use Rattle.column_queue.specs.Parts.{Pushing}
+use Rattle.column_turns.specs.Parts.{Pushing}
 use Rattle.column_turns.specs.Course.{heldAfter, standingAfter, feasibleAt, firstAt, lastAt, Stands, Begun, Opened, columnAfter}
 use Rattle.cut_try.proofs.Lent.{became-enough}
-use Rattle.column_queue.proofs.Queueing.{ring-slots}
+use Rattle.column_turns.proofs.Queueing.{ring-slots}
 use Rattle.column_turns.proofs.Turns.{feasible-cuts}
 
 -- ---- the first interval

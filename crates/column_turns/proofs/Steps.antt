@@ -34,7 +34,7 @@ use Rattle.column_turns.specs.declared.Attempt.{Attempt}
 use Rattle.cut_try.specs.Lent.{tableOf, ringOf, Enough, Became}
 use Rattle.cut_try.specs.Try.{columnOf, treeAt, triedTree}
 use Rattle.interval_steps.specs.Steps.{improvedBy, endsColumn}
-use Rattle.column_queue.specs.Parts.{partsQueued}
+use Rattle.column_turns.specs.Parts.{partsQueued}
 use Rattle.column_turns.specs.Course.{heldAfter, standingAfter, Attempted, Matches}
 use Rattle.cut_try.proofs.Lent.{table-length}
 

@@ -47,7 +47,7 @@ use Rattle.cut_try.specs.Lent.{tableOf, ringOf}
 use Rattle.cut_try.specs.Ready.{Whole, Trying}
 use Rattle.cut_try.specs.Try.{columnOf}
 use Rattle.interval_steps.specs.Steps.{mostTries, prunedOf}
-use Rattle.column_queue.specs.Parts.{Parting, Numbered}
+use Rattle.column_turns.specs.Parts.{Parting, Numbered}
 use Rattle.column_turns.specs.Course.{standingAfter, feasibleAt, firstAt, lastAt, Matches, Stands, Begun, Attempted, Attempting}
 use Rattle.cut_try.proofs.Lent.{became-enough}
 use Rattle.column_turns.proofs.Places.{places-count, places-ascend, places-low}

@@ -29,7 +29,7 @@ use Rattle.interval_steps.specs.declared.Standing.{Standing}
 use Rattle.column_turns.specs.declared.Course.{Course}
 use Rattle.column_turns.specs.declared.Attempt.{Attempt}
 use Rattle.interval_steps.specs.Steps.{mostTries}
-use Rattle.column_queue.specs.Parts.{Numbered}
+use Rattle.column_turns.specs.Parts.{Numbered}
 use Rattle.cut_try.specs.Lent.{tableOf, ringOf, Enough, Became}
 use Rattle.cut_try.specs.Ready.{Whole}
 use Rattle.cut_try.specs.Try.{columnOf, treeAt, triedTree}

@@ -1,32 +1,156 @@
 // The search of one column, turn by turn (depth2.rs): the first interval that waits is pruned, its middle cut tried, and what is left of it waits in parts.
+use cut_try::MARKS;
 use cut_try::RING;
 use interval_pruner::Bound;
 use interval_pruner::Shrunk;
 use interval_pruner::Tried;
 use interval_pruner::Zeros;
+use interval_queue::Popped;
 use interval_queue::Queue;
+use interval_steps::Reach;
 use interval_steps::Standing;
 use sheet::Size;
 use sheet::Terms;
 use tree::Tree;
 ghost use mathlib.Core.Path.{_≡_};
+ghost use mathlib.Core.List.{[], _++_, List};
+ghost use Rattle.basics.specs.Choice.{pick};
+ghost use Rattle.interval_queue.specs.Ring.{contents, popped, pushed, pushedWords};
+ghost use Rattle.interval_queue.specs.Laws.{Sane};
+ghost use Rattle.column_search.specs.Search.{part, upperPart, lowerPart, State, tryCut, afterShrink, columnRun};
+ghost use Rattle.cut_try.specs.Lent.{tableOf, ringOf, Enough, Became};
+ghost use Rattle.column_turns.specs.Parts.{Parting, Pushing, Queued, partsQueued};
 ghost use Prim.Native.Nat.{ℕ, _≤_, _<_};
-ghost use mathlib.Core.List.{List};
 ghost use lib.Ieee.{Float};
 ghost use Rattle.sheet.specs.Check.{sheetOf};
 ghost use Rattle.basics.specs.Lists.{total};
 ghost use Rattle.sheet.specs.Limits.{mostRows};
 ghost use Rattle.sheet.specs.Sheet.{placesOf};
 ghost use Rattle.interval_pruner.specs.Pruner.{zerosAfter, recordedAfter};
-ghost use Rattle.interval_queue.specs.Ring.{contents};
 ghost use Rattle.interval_steps.specs.declared.Standing.{Standing};
-ghost use Rattle.column_search.specs.Search.{State, tryCut, afterShrink, columnRun};
 ghost use Rattle.column_search.specs.Laws.{IfTo};
 ghost use Rattle.column_search.specs.Loop.{weight};
 ghost use Rattle.cut_try.specs.Try.{columnOf as columnIn};
-ghost use Rattle.cut_try.specs.Lent.{tableOf, ringOf, Enough, Became};
 ghost use Rattle.column_turns.specs.Course.{Attempted, Matches, Stands, Turning, Attempting, standingAfter, Opened, Entering, Searching, columnAfter};
 ghost use Rattle.cut_try.specs.Ready.{Trying, PlacedIn};
+
+// The first interval that waits.
+fn next_interval(rows: usize, queue: Queue, scratch: &[u32]) -> Popped
+    requires { ⌜ Enough rows (now scratch) ⌝ }
+    ensures { λ r. ⌜ r ≡ popped (ringOf rows (now (scratch .entry))) queue ⌝ }
+{
+    let from = RING * rows;
+    let to = MARKS * rows;
+    interval_queue::pop(&scratch[from..to], queue)
+}
+
+// One interval more.
+fn add_interval(rows: usize, queue: Queue, bound: Bound, scratch: &mut [u32]) -> Queue
+    requires { ⌜ Enough rows (now scratch) ⌝ }
+    ensures { λ r. ⌜ r ≡ pushed (ringOf rows (now (scratch .entry))) queue ⌝ }
+    ensures lent { λ _. ⌜ Became rows (now (scratch .entry)) (now (scratch .exit)) (tableOf rows (now (scratch .entry))) (pushedWords (ringOf rows (now (scratch .entry))) queue bound) ⌝ }
+{
+    let from = RING * rows;
+    let to = MARKS * rows;
+    interval_queue::push(&mut scratch[from..to], queue, bound)
+}
+
+// A part is queued if it is not empty.
+fn queue_part(rows: usize, queue: Queue, bound: Bound, scratch: &mut [u32]) -> Queue
+    requires { ⌜ Pushing rows (now scratch) queue bound ⌝ }
+    ensures { λ r. ⌜ Queued rows (now (scratch .entry)) (now (scratch .exit)) queue r (part bound) ⌝ }
+    ensures lent { λ _. ⌜ Became rows (now (scratch .entry)) (now (scratch .exit)) (tableOf rows (now (scratch .entry))) (ringOf rows (now (scratch .exit))) ⌝ }
+{
+    if bound.first <= bound.last {
+        return add_interval(rows, queue, bound, scratch);
+    }
+    queue
+}
+
+// The part of an interval above a tried cut.
+fn upper_part(bound: Bound, cut: usize, first: usize) -> Bound
+    ensures { λ r. ⌜ r ≡ upperPart bound cut first ⌝ }
+{
+    let right = bound.right;
+    Bound {
+        first,
+        last: bound.last,
+        left: Tried::Cut(cut),
+        right,
+    }
+}
+
+// The part below it.
+fn lower_part(bound: Bound, cut: usize, last: usize) -> Bound
+    ensures { λ r. ⌜ r ≡ lowerPart bound cut last ⌝ }
+{
+    let left = bound.left;
+    Bound {
+        first: bound.first,
+        last,
+        left,
+        right: Tried::Cut(cut),
+    }
+}
+
+// Step 5: the upper part, then the lower.
+fn queue_parts(
+    rows: usize,
+    places: &[u16],
+    reach: Reach,
+    zeros: Zeros,
+    bound: Bound,
+    cut: usize,
+    queue: Queue,
+    scratch: &mut [u32],
+) -> Queue
+    requires { ⌜ Parting rows (now places) zeros bound cut queue (now scratch) ⌝ }
+    ensures { λ r. ⌜ Queued rows (now (scratch .entry)) (now (scratch .exit)) queue r (partsQueued (now (places .entry)) (reach .gap) (reach .small) zeros (reach .excess) cut bound) ⌝ }
+    ensures lent { λ _. ⌜ Became rows (now (scratch .entry)) (now (scratch .exit)) (tableOf rows (now (scratch .entry))) (ringOf rows (now (scratch .exit))) ⌝ }
+{
+    if bound.first == bound.last {
+        return queue;
+    }
+    let parts = neighbourhood_pruning::neighbourhood_pruning(
+        places,
+        zeros,
+        reach.gap,
+        reach.excess,
+        bound.first,
+        cut,
+        reach.small,
+    );
+    let upper = upper_part(bound, cut, parts.upper);
+    let lower = lower_part(bound, cut, parts.lower);
+    let more = queue_part(rows, queue, upper, scratch);
+    queue_part(rows, more, lower, scratch)
+}
+
+// What waits after a try: nothing if the column is over, else the parts of its interval too.
+fn next_queue(
+    rows: usize,
+    places: &[u16],
+    reach: Reach,
+    zeros: Zeros,
+    over: bool,
+    bound: Bound,
+    cut: usize,
+    queue: Queue,
+    scratch: &mut [u32],
+) -> Queue
+    requires { ⌜ Parting rows (now places) zeros bound cut queue (now scratch) ⌝ }
+    ensures { λ r. ⌜ contents (ringOf rows (now (scratch .exit))) r ≡ pick over [] (contents (ringOf rows (now (scratch .entry))) queue ++ partsQueued (now (places .entry)) (reach .gap) (reach .small) zeros (reach .excess) cut bound) ⌝ }
+    ensures sane { λ r. ⌜ Sane (ringOf rows (now (scratch .exit))) r ⌝ }
+    ensures lent { λ _. ⌜ Became rows (now (scratch .entry)) (now (scratch .exit)) (tableOf rows (now (scratch .entry))) (ringOf rows (now (scratch .exit))) ⌝ }
+{
+    if over {
+        return Queue {
+            head: queue.head,
+            waiting: 0,
+        };
+    }
+    queue_parts(rows, places, reach, zeros, bound, cut, queue, scratch)
+}
 
 // The errors of a tried cut are kept, and the zero marks moved.
 fn keep_errors(
@@ -154,7 +278,7 @@ fn try_interval(
     let over = interval_steps::ends_column(tree.error, standing.error);
     let reach = interval_steps::reach_of(terms, tree.error, next.error);
     let places = places_of(size, cuts, counts, column);
-    let waiting = column_queue::next_queue(
+    let waiting = next_queue(
         rows,
         places,
         reach,
@@ -228,7 +352,7 @@ fn turn(
 {
     let zeros = course.zeros;
     let error = course.standing.error;
-    let popped = column_queue::next_interval(size.rows, course.queue, scratch);
+    let popped = next_interval(size.rows, course.queue, scratch);
     let bound = popped.bound;
     let places = places_of(size, cuts, counts, column);
     let pruned = interval_steps::prune(size.rows, terms, places, zeros, bound, error, scratch);
@@ -273,7 +397,7 @@ fn begin_column(
         head: 0,
         waiting: 0,
     };
-    let queue = column_queue::queue_part(rows, none, all, scratch);
+    let queue = queue_part(rows, none, all, scratch);
     let zeros = Zeros {
         left: Tried::Nothing,
         right: Tried::Nothing,

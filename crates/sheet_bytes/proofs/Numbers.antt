@@ -94,7 +94,7 @@ within-number bits t = subst (λ (b : Bool). T (not b)) (sym (nanBits-is binary6
 
 -- ---- a header by its seven numbers
 
-pub made : ℕ → ℕ → ℕ → ℕ → ℕ → ℕ → ℕ → Head
+abbrev made : ℕ → ℕ → ℕ → ℕ → ℕ → ℕ → ℕ → Head
 made rows columns labels support gap error bound =
     record { rows = rows; columns = columns; labels = labels; support = support; gap = gap; error = error; bound = bound }
 

@@ -39,7 +39,7 @@ four-bytes n h = omega arith
 one-byte : (n : ℕ) → n < 256 → n % 256 + 256 * 0 ≡ n
 one-byte n h = omega arith
 
-abbrev module _ (h : Head) (values : List Float) (codes : List ℕ) (w : Within h values codes) where
+module _ (h : Head) (values : List Float) (codes : List ℕ) (w : Within h values codes) where
   abbrev bytes : List ℕ
   bytes = encodeOf h values codes
 

@@ -4,7 +4,7 @@ use Prim.Native.Nat.{_+_}
 use native.Mathlib.Omega.{arith}
 use mathlib.Core.List.{_++_}
 use borrow.Author.Needs.{needs}
-use Rattle.column_queue.proofs.Queueing.{part-full}
+use Rattle.column_turns.proofs.Queueing.{part-full}
 use Rattle.column_turns.proofs.Loop.{first-pushing, none-waits}
 use Rattle.cut_try.specs.Lent.{ringOf}
 use Rattle.interval_pruner.specs.declared.Tried.the-variants.{Nothing}

@@ -12,7 +12,7 @@ use Rattle.interval_steps.specs.declared.Standing.{Standing}
 use Rattle.cut_try.specs.Lent.{ringOf}
 use Rattle.cut_try.specs.Try.{columnOf}
 use Rattle.interval_steps.specs.Steps.{reachOf}
-use Rattle.column_queue.specs.Parts.{Parting, partsQueued}
+use Rattle.column_turns.specs.Parts.{Parting, partsQueued}
 use Rattle.column_turns.specs.Course.{Matches}
 use Rattle.column_turns.proofs.Places.{placed-in}
 use Rattle.column_turns.proofs.Steps.{matches-next}

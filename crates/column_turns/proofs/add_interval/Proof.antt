@@ -1,12 +1,12 @@
--- `column_queue::add_interval` meets its contract. Putting the ring back leaves the table and the rest as they were. Assumes nothing.
+-- `column_turns::add_interval` meets its contract. Putting the ring back leaves the table and the rest as they were. Assumes nothing.
 use Prim.Native.Nat.{ℕ}
 use mathlib.Core.List.{List}
 use borrow.Author.Needs.{needs}
 use Rattle.cut_try.specs.Lent.{ringOf}
 use Rattle.cut_try.proofs.Lent.{ring-became, pushed-length}
 use Rattle.interval_queue.specs.Ring.{pushedWords}
-use Rattle.column_queue.proofs.add_interval.Statement.{statement}
-use Rattle.column_queue.proofs.add_interval.Tie as tie
+use Rattle.column_turns.proofs.add_interval.Statement.{statement}
+use Rattle.column_turns.proofs.add_interval.Tie as tie
 
 mul-from : tie.Need-mul-from
 mul-from c = search needs

@@ -1,8 +1,8 @@
--- `column_queue::next_interval` meets its contract. The ring is the part of the lent words from the table's end to the marks. Assumes nothing.
+-- `column_turns::next_interval` meets its contract. The ring is the part of the lent words from the table's end to the marks. Assumes nothing.
 use borrow.Author.Needs.{needs}
 use Rattle.cut_try.specs.Lent.{ringOf}
-use Rattle.column_queue.proofs.next_interval.Statement.{statement}
-use Rattle.column_queue.proofs.next_interval.Tie as tie
+use Rattle.column_turns.proofs.next_interval.Statement.{statement}
+use Rattle.column_turns.proofs.next_interval.Tie as tie
 
 mul-from : tie.Need-mul-from
 mul-from c = search needs

@@ -1,4 +1,4 @@
--- `column_queue::next_queue` meets its contract. By whether the column ends. Assumes nothing.
+-- `column_turns::next_queue` meets its contract. By whether the column ends. Assumes nothing.
 use mathlib.Core.Path.{refl, sym, ap, _∙_}
 use Prim.Native.Nat.{_+_}
 use native.Mathlib.Omega.{arith}
@@ -9,9 +9,9 @@ use Rattle.basics.specs.Choice.{pick}
 use Rattle.interval_pruner.specs.declared.Bound.{Bound}
 use Rattle.interval_queue.specs.Ring.{contents}
 use Rattle.cut_try.specs.Lent.{ringOf}
-use Rattle.column_queue.specs.Parts.{partsQueued}
-use Rattle.column_queue.proofs.next_queue.Statement.{statement}
-use Rattle.column_queue.proofs.next_queue.Tie as tie
+use Rattle.column_turns.specs.Parts.{partsQueued}
+use Rattle.column_turns.proofs.next_queue.Statement.{statement}
+use Rattle.column_turns.proofs.next_queue.Tie as tie
 
 returns : tie.Need-returns
 unfolding contents pick

@@ -1,4 +1,4 @@
--- `column_queue::queue_parts` meets its contract. One part after the other; there is room for both. Assumes nothing.
+-- `column_turns::queue_parts` meets its contract. One part after the other; there is room for both. Assumes nothing.
 use mathlib.Core.Path.{sym, ap, _∙_, subst}
 use Prim.Native.Nat.{ℕ}
 use native.Mathlib.Omega.{arith}
@@ -10,11 +10,11 @@ use Rattle.interval_pruner.specs.Column.{columnOf}
 use Rattle.interval_pruner.specs.Pruner.{partsOf}
 use Rattle.column_search.specs.Search.{part, upperPart, lowerPart}
 use Rattle.cut_try.specs.Lent.{tableOf, ringOf, Became}
-use Rattle.column_queue.specs.Parts.{Pushing, Queued}
+use Rattle.column_turns.specs.Parts.{Pushing, Queued}
 use Rattle.cut_try.proofs.Lent.{became-then}
-use Rattle.column_queue.proofs.Queueing.{none-queued, both-queued, upper-pushing, lower-pushing, parts-none, parts-both}
-use Rattle.column_queue.proofs.queue_parts.Statement.{statement}
-use Rattle.column_queue.proofs.queue_parts.Tie as tie
+use Rattle.column_turns.proofs.Queueing.{none-queued, both-queued, upper-pushing, lower-pushing, parts-none, parts-both}
+use Rattle.column_turns.proofs.queue_parts.Statement.{statement}
+use Rattle.column_turns.proofs.queue_parts.Tie as tie
 
 returns : tie.Need-returns
 returns c =

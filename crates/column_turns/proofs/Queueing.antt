@@ -25,7 +25,7 @@ use Rattle.column_search.specs.Search.{part, upperPart, lowerPart}
 use Rattle.column_search.specs.Laws.{IfCut}
 use Rattle.column_search.proofs.Steps.{sides}
 use Rattle.cut_try.specs.Lent.{tableOf, ringOf, Enough, Became}
-use Rattle.column_queue.specs.Parts.{Pushing, Queued, Parting, partsQueued}
+use Rattle.column_turns.specs.Parts.{Pushing, Queued, Parting, partsQueued}
 use Rattle.cut_try.proofs.Lent.{ring-length, became-enough}
 
 -- as many slots as rows

@@ -1,9 +1,9 @@
--- `column_queue::queue_part` meets its contract. By whether the part is empty. Assumes nothing.
+-- `column_turns::queue_part` meets its contract. By whether the part is empty. Assumes nothing.
 use native.Mathlib.Omega.{arith}
 use borrow.Author.Needs.{needs}
-use Rattle.column_queue.proofs.Queueing.{part-pushed, none-queued, part-none}
-use Rattle.column_queue.proofs.queue_part.Statement.{statement}
-use Rattle.column_queue.proofs.queue_part.Tie as tie
+use Rattle.column_turns.proofs.Queueing.{part-pushed, none-queued, part-none}
+use Rattle.column_turns.proofs.queue_part.Statement.{statement}
+use Rattle.column_turns.proofs.queue_part.Tie as tie
 
 add-interval-requires : tie.Need-add-interval-requires
 add-interval-requires c κs = search needs
