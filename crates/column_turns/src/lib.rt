@@ -278,17 +278,7 @@ fn try_interval(
     let over = interval_steps::ends_column(tree.error, standing.error);
     let reach = interval_steps::reach_of(terms, tree.error, next.error);
     let places = places_of(size, cuts, counts, column);
-    let waiting = next_queue(
-        rows,
-        places,
-        reach,
-        zeros,
-        over,
-        bound,
-        cut,
-        queue,
-        scratch,
-    );
+    let waiting = next_queue(rows, places, reach, zeros, over, bound, cut, queue, scratch);
     Course {
         standing: next,
         zeros,

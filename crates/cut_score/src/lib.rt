@@ -1,15 +1,12 @@
 // One cut of a side scored, by numbers: which rows are only counted, what the cut comes to, and the split that it makes.
 ghost use mathlib.Core.Path.{_≡_};
-ghost use mathlib.Core.Bool.{false, _&&_, _||_};
-ghost use Prim.Native.Nat.{_+_, _-_, _≤_, _<_};
+ghost use mathlib.Core.Bool.{_&&_, _||_};
+ghost use Prim.Native.Nat.{_+_, _-_, _≤_};
 ghost use lib.Dec.{leb, ltb, eqb};
-ghost use lib.Ieee.{nan, eq};
-ghost use lib.ListN.{length, getD};
+ghost use lib.Ieee.{eq};
 ghost use Rattle.sheet.specs.Limits.{mostRows};
-ghost use Rattle.cut_score.specs.Scored.{fallen, verdictOf, splitBy, standAfter, passed, untilAfter, Scorable, cutOf};
+ghost use Rattle.cut_score.specs.Scored.{fallen, verdictOf, splitBy};
 use best_counts::Peaks;
-use best_counts::find_peaks;
-use sheet::MOST_LABELS;
 
 // The best that a side has found: the rows that it gets right, and the split that does. Before a split is taken only the score is read.
 pub struct Best {
@@ -149,84 +146,4 @@ pub fn split_of(
         lost: counted - peaks.before,
         missed: rest - peaks.after,
     }
-}
-
-// A row is counted.
-pub fn count_row(stand: Stand, row: usize) -> Stand
-    requires { ⌜ stand .counted < mostRows ⌝ }
-    ensures { λ r. ⌜ r ≡ standAfter stand row ⌝ }
-{
-    Stand {
-        counted: stand.counted + 1,
-        until: stand.until,
-        last: row,
-    }
-}
-
-// Whether a row is only counted: it is skipped, for its side counts `until` rows first, or its value is the side's previous one, that of row `last`.
-pub fn is_passed(values: &[f64], base: usize, row: usize, stand: Stand) -> bool
-    requires { ⌜ (base + stand .last < length (now values)) × (base + row < length (now values)) × (stand .counted < mostRows) ⌝ }
-    ensures { λ r. ⌜ r ≡ passed (now (values .entry)) base row (stand .last) (stand .counted) (stand .until) ⌝ }
-{
-    if stand.counted + 1 < stand.until {
-        return true;
-    }
-    is_same(
-        0 < stand.counted,
-        values[base + stand.last],
-        values[base + row],
-    )
-}
-
-// The count up to which a side's rows are skipped after a cut: past all of its rows if it closes.
-fn until_after(verdict: Verdict, next: u32, size: u32) -> u32
-    requires { ⌜ (size ≤ mostRows) × (verdict .closed ≡ false → next + verdict .skip ≤ size) ⌝ }
-    ensures { λ r. ⌜ r ≡ untilAfter verdict next size ⌝ }
-{
-    if verdict.closed {
-        size + 1
-    } else {
-        next + verdict.skip
-    }
-}
-
-// The cut before a row that is not passed: skip has fallen to 0.
-pub fn score_cut(
-    own: &[u16; MOST_LABELS],
-    seen: &[u16; MOST_LABELS],
-    share: Share,
-    stand: Stand,
-    score: u32,
-) -> Cut
-    requires { ⌜ Scorable (now own) (now seen) (share .labels) (stand .counted) (share .size) ⌝ }
-    ensures { λ r. ⌜ r ≡ cutOf (now (own .entry)) (now (seen .entry)) (share .labels) (stand .counted) (share .size) (share .least) score ⌝ }
-{
-    let peaks = find_peaks(own, seen, share.labels);
-    let rest = share.size - stand.counted;
-    let verdict = judge(peaks, stand.counted, rest, share.least, score, 0);
-    let until = until_after(verdict, stand.counted + 1, share.size);
-    Cut {
-        peaks,
-        taken: verdict.taken,
-        until,
-    }
-}
-
-// The split of the cut between two rows.
-pub fn split_at(
-    peaks: Peaks,
-    share: Share,
-    stand: Stand,
-    column: usize,
-    values: &[f64],
-    base: usize,
-    row: usize,
-) -> Best
-    requires { ⌜ (peaks .before ≤ stand .counted) × (stand .counted ≤ share .size) × (peaks .after ≤ share .size - stand .counted) × (share .size ≤ mostRows) × (base + stand .last < length (now values)) × (base + row < length (now values)) ⌝ }
-    ensures { λ r. ⌜ r ≡ splitBy peaks (stand .counted) (share .size - stand .counted) column (getD (now (values .entry)) (base + stand .last) nan) (getD (now (values .entry)) (base + row) nan) ⌝ }
-{
-    let previous = values[base + stand.last];
-    let value = values[base + row];
-    let rest = share.size - stand.counted;
-    split_of(peaks, stand.counted, rest, column, previous, value)
 }

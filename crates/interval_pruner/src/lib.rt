@@ -1,7 +1,7 @@
 // The record of what was tried in one column (interval_pruner.rs), and the definitions of steps 1, 2 and 5 of its search, each step a crate above.
 
 ghost use mathlib.Core.Path.{_≡_};
-ghost use Prim.Native.Nat.{_+_, _-_, _*_, _^_, _<_, min, max};
+ghost use Prim.Native.Nat.{_+_, _*_, _^_, _<_};
 ghost use lib.ListN.{getD, set};
 ghost use lib.Dec.{eqb};
 ghost use Rattle.basics.specs.Choice.{pick};
@@ -49,25 +49,6 @@ fn wide(x: u32) -> usize
     x as usize
 }
 
-pub fn larger(a: usize, b: usize) -> usize
-    ensures { λ r. ⌜ r ≡ max a b ⌝ }
-{
-    if a < b { b } else { a }
-}
-
-pub fn smaller(a: usize, b: usize) -> usize
-    ensures { λ r. ⌜ r ≡ min a b ⌝ }
-{
-    if a < b { a } else { b }
-}
-
-// a - b, not below 0
-pub fn below(a: usize, b: usize) -> usize
-    ensures { λ r. ⌜ r ≡ a - b ⌝ }
-{
-    if b < a { a - b } else { 0 }
-}
-
 // ---- what was tried
 
 fn store(table: &mut [u32], i: usize, error: u32)
@@ -95,7 +76,7 @@ fn highest_zero(mark: Tried, cut: usize, error: u32) -> Tried
     if error == 0 {
         return match mark {
             Tried::Nothing => Tried::Cut(cut),
-            Tried::Cut(z) => Tried::Cut(larger(z, cut)),
+            Tried::Cut(z) => Tried::Cut(numbers::larger(z, cut)),
         };
     }
     mark
@@ -107,7 +88,7 @@ fn lowest_zero(mark: Tried, cut: usize, error: u32) -> Tried
     if error == 0 {
         return match mark {
             Tried::Nothing => Tried::Cut(cut),
-            Tried::Cut(z) => Tried::Cut(smaller(z, cut)),
+            Tried::Cut(z) => Tried::Cut(numbers::smaller(z, cut)),
         };
     }
     mark
@@ -164,7 +145,7 @@ pub fn short_of(zero: Tried, last: usize) -> usize
 {
     match zero {
         Tried::Nothing => last,
-        Tried::Cut(z) => smaller(last, below(z, 1)),
+        Tried::Cut(z) => numbers::smaller(last, numbers::below(z, 1)),
     }
 }
 

@@ -46,7 +46,7 @@ fn between_zeros(zeros: Zeros, bound: Bound) -> Shrunk
         Tried::Nothing => between(bound, bound.first, last),
         Tried::Cut(z) => {
             if z < last {
-                let first = interval_pruner::larger(bound.first, z + 1);
+                let first = numbers::larger(bound.first, z + 1);
                 return between(bound, first, last);
             }
             Shrunk::Dropped
@@ -90,7 +90,7 @@ fn up_to(cuts: &[u16], bound: Bound, x: usize) -> Shrunk
         return Shrunk::Dropped;
     }
     let end = cuts::upper_bound(cuts, first, last, x);
-    between(bound, first, interval_pruner::smaller(last, end))
+    between(bound, first, numbers::smaller(last, end))
 }
 
 // The cuts near the one remembered on the right are too near to be better.
@@ -108,7 +108,7 @@ fn away_from_right(cuts: &[u16], table: &[u32], bound: Bound, gap: u32, best: u3
             if sum < limit {
                 return between(bound, bound.first, bound.last);
             }
-            let x = interval_pruner::below(cuts::place_at(cuts, k), sum - limit + 1);
+            let x = numbers::below(cuts::place_at(cuts, k), sum - limit + 1);
             up_to(cuts, bound, x)
         }
     }

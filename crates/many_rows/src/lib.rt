@@ -1,20 +1,29 @@
 // A column of many rows: both sides of a root split in one pass, by the side's number.
 ghost use mathlib.Core.Path.{_≡_};
+ghost use mathlib.Core.Bool.{false, _&&_};
+ghost use Prim.Native.Nat.{_+_, _-_, _≤_, _<_};
+ghost use lib.Ieee.{nan, eq};
+ghost use lib.ListN.{length, getD};
+ghost use Rattle.sheet.specs.Limits.{mostRows};
+ghost use Rattle.cut_score.specs.Scored.{splitBy, notBegun, standAfter, passed, untilAfter, Scorable, cutOf};
+ghost use Rattle.side_scan.specs.Step.{shareOf};
 ghost use Rattle.two_sides.specs.Column.{scanColumn};
 ghost use Rattle.two_sides.specs.Kept.{BothAlike};
-ghost use Rattle.two_sides.specs.Lists.{sheetOf, goLeft, bothAt, ReadyColumn, Found};
+ghost use Rattle.two_sides.specs.Lists.{sheetOf, goLeft, bothAt, bothSkip, ReadyColumn, Found};
+use best_counts::Peaks;
+use best_counts::find_peaks;
 use cut_score::Best;
+use cut_score::Cut;
 use cut_score::Share;
 use cut_score::Stand;
-use cut_score::score_cut;
-use cut_score::split_at;
+use cut_score::Verdict;
+use cut_score::split_of;
 use sheet::MOST_LABELS;
 use sheet::MOST_ROWS;
 use sheet::Size;
+use side_scan::SideScan;
 use two_sides::SIDES;
 use two_sides::Two;
-use two_sides::is_over;
-use two_sides::not_begun;
 
 fn row_number(entry: u16) -> usize
     ensures { λ r. ⌜ r ≡ entry ⌝ }
@@ -32,6 +41,125 @@ fn side_number(side: u8) -> usize
     ensures { λ r. ⌜ r ≡ side ⌝ }
 {
     side as usize
+}
+
+fn share_of(side: SideScan) -> Share
+    ensures { λ r. ⌜ r ≡ shareOf side ⌝ }
+{
+    Share {
+        size: side.size,
+        least: side.least,
+        labels: side.labels,
+    }
+}
+
+// A side before the first row of a column.
+fn not_begun() -> Stand
+    ensures { λ r. ⌜ r ≡ notBegun ⌝ }
+{
+    Stand {
+        counted: 0,
+        until: 0,
+        last: 0,
+    }
+}
+
+// No side has a cut to come that could be taken. The right side is asked first: so the loop over the labels stays short in the compiled code.
+fn is_over(stand: [Stand; SIDES], share: [Share; SIDES]) -> bool
+    ensures { λ r. ⌜ r ≡ bothSkip stand share ⌝ }
+{
+    if share[1].size <= stand[1].until {
+        share[0].size <= stand[0].until
+    } else {
+        false
+    }
+}
+
+// A row is counted.
+fn count_row(stand: Stand, row: usize) -> Stand
+    requires { ⌜ stand .counted < mostRows ⌝ }
+    ensures { λ r. ⌜ r ≡ standAfter stand row ⌝ }
+{
+    Stand {
+        counted: stand.counted + 1,
+        until: stand.until,
+        last: row,
+    }
+}
+
+// A side's first row has no previous value.
+fn is_same(started: bool, previous: f64, value: f64) -> bool
+    ensures { λ r. ⌜ r ≡ (started && eq previous value) ⌝ }
+{
+    if started { previous == value } else { false }
+}
+
+// Whether a row is only counted: it is skipped, for its side counts `until` rows first, or its value is the side's previous one, that of row `last`.
+fn is_passed(values: &[f64], base: usize, row: usize, stand: Stand) -> bool
+    requires { ⌜ (base + stand .last < length (now values)) × (base + row < length (now values)) × (stand .counted < mostRows) ⌝ }
+    ensures { λ r. ⌜ r ≡ passed (now (values .entry)) base row (stand .last) (stand .counted) (stand .until) ⌝ }
+{
+    if stand.counted + 1 < stand.until {
+        return true;
+    }
+    is_same(
+        0 < stand.counted,
+        values[base + stand.last],
+        values[base + row],
+    )
+}
+
+// The count up to which a side's rows are skipped after a cut: past all of its rows if it closes.
+fn until_after(verdict: Verdict, next: u32, size: u32) -> u32
+    requires { ⌜ (size ≤ mostRows) × (verdict .closed ≡ false → next + verdict .skip ≤ size) ⌝ }
+    ensures { λ r. ⌜ r ≡ untilAfter verdict next size ⌝ }
+{
+    if verdict.closed {
+        size + 1
+    } else {
+        next + verdict.skip
+    }
+}
+
+// The cut before a row that is not passed: skip has fallen to 0.
+fn score_cut(
+    own: &[u16; MOST_LABELS],
+    seen: &[u16; MOST_LABELS],
+    share: Share,
+    stand: Stand,
+    score: u32,
+) -> Cut
+    requires { ⌜ Scorable (now own) (now seen) (share .labels) (stand .counted) (share .size) ⌝ }
+    ensures { λ r. ⌜ r ≡ cutOf (now (own .entry)) (now (seen .entry)) (share .labels) (stand .counted) (share .size) (share .least) score ⌝ }
+{
+    let peaks = find_peaks(own, seen, share.labels);
+    let rest = share.size - stand.counted;
+    let verdict = cut_score::judge(peaks, stand.counted, rest, share.least, score, 0);
+    let until = until_after(verdict, stand.counted + 1, share.size);
+    Cut {
+        peaks,
+        taken: verdict.taken,
+        until,
+    }
+}
+
+// The split of the cut between two rows.
+fn split_at(
+    peaks: Peaks,
+    share: Share,
+    stand: Stand,
+    column: usize,
+    values: &[f64],
+    base: usize,
+    row: usize,
+) -> Best
+    requires { ⌜ (peaks .before ≤ stand .counted) × (stand .counted ≤ share .size) × (peaks .after ≤ share .size - stand .counted) × (share .size ≤ mostRows) × (base + stand .last < length (now values)) × (base + row < length (now values)) ⌝ }
+    ensures { λ r. ⌜ r ≡ splitBy peaks (stand .counted) (share .size - stand .counted) column (getD (now (values .entry)) (base + stand .last) nan) (getD (now (values .entry)) (base + row) nan) ⌝ }
+{
+    let previous = values[base + stand.last];
+    let value = values[base + row];
+    let rest = share.size - stand.counted;
+    split_of(peaks, stand.counted, rest, column, previous, value)
 }
 
 // The rows of a column, both sides in one pass. What a row changes lies by the side's number, so that no row waits for the guess of its side.
@@ -58,7 +186,7 @@ fn scan_rows(
         let label = label_number(codes[row]);
         let side = side_number(sides[row]);
         let was = stand[side];
-        if !cut_score::is_passed(values, base, row, was) {
+        if !is_passed(values, base, row, was) {
             let cut = score_cut(&own[side], &seen[side], share[side], was, best[side].score);
             if cut.taken {
                 best[side] = split_at(cut.peaks, share[side], was, column, values, base, row);
@@ -69,7 +197,7 @@ fn scan_rows(
             }
         }
         seen[side][label] = seen[side][label] + 1;
-        stand[side] = cut_score::count_row(stand[side], row);
+        stand[side] = count_row(stand[side], row);
         i += 1;
     }
     best
@@ -93,7 +221,7 @@ pub fn scan_many(
     let mine = left.own;
     let theirs = right.own;
     let own = [mine, theirs];
-    let share = [side_scan::share_of(left), side_scan::share_of(right)];
+    let share = [share_of(left), share_of(right)];
     let first = left.best;
     let second = right.best;
     let best = [first, second];

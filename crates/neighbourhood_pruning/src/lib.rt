@@ -29,7 +29,7 @@ fn past_zero(count: usize, zero: Tried, first: usize) -> usize
 {
     match zero {
         Tried::Nothing => first,
-        Tried::Cut(z) => interval_pruner::larger(first, after(count, z)),
+        Tried::Cut(z) => numbers::larger(first, after(count, z)),
     }
 }
 
@@ -61,12 +61,12 @@ fn lower_near(cuts: &[u16], zeros: Zeros, distance: usize, cut: usize, first: us
         ⌜ (Ascending (now (cuts .entry)) →
         r ≡ lowerNear (columnOf (now (cuts .entry)) [] 0 true) zeros distance cut first) ⌝ }
 {
-    let x = interval_pruner::below(cuts::place_at(cuts, cut), distance + 1);
+    let x = numbers::below(cuts::place_at(cuts, cut), distance + 1);
     if x < cuts::place_at(cuts, first) {
-        return interval_pruner::below(first, 1);
+        return numbers::below(first, 1);
     }
     let zero = zeros.right;
-    let last = interval_pruner::short_of(zero, interval_pruner::below(cut, 1));
+    let last = interval_pruner::short_of(zero, numbers::below(cut, 1));
     cuts::upper_bound(cuts, first, last, x)
 }
 
@@ -84,7 +84,7 @@ fn lower_to(
         ⌜ (Ascending (now (cuts .entry)) →
         r ≡ lowerTo (columnOf (now (cuts .entry)) [] 0 small) zeros distance cut first) ⌝ }
 {
-    let before = interval_pruner::below(cut, 1);
+    let before = numbers::below(cut, 1);
     if small {
         if 0 < distance {
             return lower_near(cuts, zeros, distance, cut, first);

@@ -3,11 +3,10 @@ ghost use mathlib.Core.Path.{_≡_};
 ghost use Prim.Native.Nat.{_≤_};
 ghost use Rattle.sheet.specs.Limits.{mostLabels};
 ghost use Rattle.side_scan.specs.OneSide.{cleared, stepOf, sideOf};
-ghost use Rattle.side_scan.specs.Step.{Steppable, shareOf, leafScan, Sized};
+ghost use Rattle.side_scan.specs.Step.{Steppable, leafScan, Sized};
 use best_counts::commonest_label;
 use best_counts::find_peaks;
 use cut_score::Best;
-use cut_score::Share;
 use cut_score::fall;
 use cut_score::is_quiet;
 use cut_score::split_of;
@@ -95,16 +94,6 @@ pub fn restart(mut side: SideScan) -> SideScan
     side.started = false;
     side.previous = 0.0;
     side
-}
-
-pub fn share_of(side: SideScan) -> Share
-    ensures { λ r. ⌜ r ≡ shareOf side ⌝ }
-{
-    Share {
-        size: side.size,
-        least: side.least,
-        labels: side.labels,
-    }
 }
 
 // A side before its first column: a leaf.

@@ -1,14 +1,11 @@
-// The two sides of a root split: which rows are whose, and where each side stands in a column.
+// The two sides of a root split: which rows are whose.
 ghost use mathlib.Core.Path.{_≡_};
 ghost use Prim.Native.Nat.{_≤_, _<_};
 ghost use lib.Dec.{eqb};
 ghost use lib.ListN.{length};
 ghost use Rattle.basics.specs.Choice.{pick};
 ghost use Rattle.sheet.specs.Limits.{mostRows};
-ghost use Rattle.cut_score.specs.Scored.{notBegun};
-ghost use Rattle.two_sides.specs.Lists.{Numbered, bothSkip, ReadyRows, partedOf};
-use cut_score::Share;
-use cut_score::Stand;
+ghost use Rattle.two_sides.specs.Lists.{Numbered, ReadyRows, partedOf};
 use sheet::MOST_LABELS;
 use sheet::MOST_ROWS;
 use side_scan::SideScan;
@@ -34,28 +31,6 @@ fn label_number(code: u8) -> usize
     ensures { λ r. ⌜ r ≡ code ⌝ }
 {
     code as usize
-}
-
-// A side before the first row of a column.
-pub fn not_begun() -> Stand
-    ensures { λ r. ⌜ r ≡ notBegun ⌝ }
-{
-    Stand {
-        counted: 0,
-        until: 0,
-        last: 0,
-    }
-}
-
-// No side has a cut to come that could be taken. The right side is asked first: so the loop over the labels stays short in the compiled code.
-pub fn is_over(stand: [Stand; SIDES], share: [Share; SIDES]) -> bool
-    ensures { λ r. ⌜ r ≡ bothSkip stand share ⌝ }
-{
-    if share[1].size <= stand[1].until {
-        share[0].size <= stand[0].until
-    } else {
-        false
-    }
 }
 
 // The number of the side that a mark sends a row to.

@@ -1,8 +1,8 @@
--- `two_sides::is_over` meets its contract: each way out rewrites the test as it found it. Assumes nothing.
+-- `many_rows::is_over` meets its contract: each way out rewrites the test as it found it. Assumes nothing.
 use borrow.Author.Needs.{needs}
 use borrow.Author.Tests.{le-leb, lt-leb}
-use Rattle.two_sides.proofs.is_over.Statement.{statement}
-use Rattle.two_sides.proofs.is_over.Tie as tie
+use Rattle.many_rows.proofs.is_over.Statement.{statement}
+use Rattle.many_rows.proofs.is_over.Tie as tie
 
 element-copy-out-if1 : tie.Need-element-copy-out-if1
 element-copy-out-if1 c = search needs

@@ -1,10 +1,10 @@
--- `cut_score::score_cut` meets its contract: what its calls say, one after the other (`Scored.antt`). Assumes nothing.
+-- `many_rows::score_cut` meets its contract: what its calls say, one after the other (`Scored.antt`). Assumes nothing.
 use Prim.Native.Nat.{_-_}
 use native.Mathlib.Omega.{arith}
 use borrow.Author.Needs.{needs}
 use Rattle.cut_score.proofs.Scored.{first-in, second-in, skips-less, cut-is}
-use Rattle.cut_score.proofs.score_cut.Statement.{statement}
-use Rattle.cut_score.proofs.score_cut.Tie as tie
+use Rattle.many_rows.proofs.score_cut.Statement.{statement}
+use Rattle.many_rows.proofs.score_cut.Tie as tie
 
 find-peaks-requires : tie.Need-find-peaks-requires
 find-peaks-requires c κs = search needs

@@ -1,9 +1,9 @@
--- `cut_score::is_passed` meets its contract: each way out rewrites the test as it found it. Assumes nothing.
+-- `many_rows::is_passed` meets its contract: each way out rewrites the test as it found it. Assumes nothing.
 use borrow.Author.Needs.{needs}
 use borrow.Author.Tests.{lt-ltb, le-ltb}
 use Rattle.cut_score.specs.Scored.{passed}
-use Rattle.cut_score.proofs.is_passed.Statement.{statement}
-use Rattle.cut_score.proofs.is_passed.Tie as tie
+use Rattle.many_rows.proofs.is_passed.Statement.{statement}
+use Rattle.many_rows.proofs.is_passed.Tie as tie
 
 add-if1 : tie.Need-add-if1
 add-if1 c = search needs

@@ -1,10 +1,10 @@
--- `cut_score::until_after` meets its contract: each way out is what `pick` picks there. Assumes nothing.
+-- `many_rows::until_after` meets its contract: each way out is what `pick` picks there. Assumes nothing.
 use borrow.Author.Needs.{needs}
 use native.Mathlib.Omega.{arith}
 use Rattle.basics.specs.Choice.{pick}
 use Rattle.cut_score.specs.Scored.{untilAfter}
-use Rattle.cut_score.proofs.until_after.Statement.{statement}
-use Rattle.cut_score.proofs.until_after.Tie as tie
+use Rattle.many_rows.proofs.until_after.Statement.{statement}
+use Rattle.many_rows.proofs.until_after.Tie as tie
 
 add-result : tie.Need-add-result
 add-result c = search needs
