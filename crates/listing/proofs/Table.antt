@@ -5,8 +5,7 @@ use lib.Ieee.{ofBits, toBits}
 use Rattle.basics.specs.Choice.{pick}
 use Rattle.basics.specs.Walk.{walk}
 use Rattle.digits.specs.Digits.{digitOf, placesOf, decimalOf, hexOf}
-use Rattle.side_lines.specs.Lines.{field, spotOf, scoreOf, leafOf, splitOf, sideOf}
-use Rattle.listing.specs.Listing.{foundOf, keptOf, refusedOf, ruleOf, listingOf}
+use Rattle.listing.specs.Listing.{field, spotOf, scoreOf, leafOf, splitOf, sideOf, foundOf, keptOf, refusedOf, ruleOf, listingOf}
 use Rattle.listing.specs.Table.{Entry, entry1, entry2, entry3, entry4, tableT}
 
 pub table-t : map (λ (e : Entry). listingOf (e .answer)) tableT ≡ map (λ (e : Entry). e .text) tableT

@@ -1,10 +1,10 @@
--- `side_lines::put_score` meets its contract: its two parts are stored one after the other. Assumes nothing.
+-- `listing::put_score` meets its contract: its two parts are stored one after the other. Assumes nothing.
 use native.Mathlib.Omega.{arith}
 use borrow.Author.Needs.{needs}
-use Rattle.side_lines.specs.Lines.{scoreOf}
+use Rattle.listing.specs.Listing.{scoreOf}
 use Rattle.digits.proofs.Puts.{joined}
-use Rattle.side_lines.proofs.put_score.Statement.{statement}
-use Rattle.side_lines.proofs.put_score.Tie as tie
+use Rattle.listing.proofs.put_score.Statement.{statement}
+use Rattle.listing.proofs.put_score.Tie as tie
 
 put-field-requires : tie.Need-put-field-requires
 put-field-requires c κs = search needs

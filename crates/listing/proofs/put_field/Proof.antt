@@ -1,10 +1,10 @@
--- `side_lines::put_field` meets its contract: the word is stored, and then the number. Assumes nothing.
+-- `listing::put_field` meets its contract: the word is stored, and then the number. Assumes nothing.
 use native.Mathlib.Omega.{arith}
 use borrow.Author.Needs.{needs}
-use Rattle.side_lines.specs.Lines.{field}
+use Rattle.listing.specs.Listing.{field}
 use Rattle.digits.proofs.Puts.{joined}
-use Rattle.side_lines.proofs.put_field.Statement.{statement}
-use Rattle.side_lines.proofs.put_field.Tie as tie
+use Rattle.listing.proofs.put_field.Statement.{statement}
+use Rattle.listing.proofs.put_field.Tie as tie
 
 put-bytes-requires : tie.Need-put-bytes-requires
 put-bytes-requires c κs = search needs

@@ -1,14 +1,14 @@
--- `side_lines::put_side` meets its contract: the mark is stored, and then what its side has. Assumes nothing.
+-- `listing::put_side` meets its contract: the mark is stored, and then what its side has. Assumes nothing.
 use mathlib.Core.Path.{sym, _∙_, subst}
 use native.Mathlib.Omega.{arith}
 use borrow.Author.Needs.{needs}
 use lib.ListN.{length-set}
 use Rattle.tree.specs.declared.Side.{Side}
 use Rattle.digits.specs.Put.{Put}
-use Rattle.side_lines.specs.Lines.{sideOf}
+use Rattle.listing.specs.Listing.{sideOf}
 use Rattle.digits.proofs.Puts.{joined, one}
-use Rattle.side_lines.proofs.put_side.Statement.{statement}
-use Rattle.side_lines.proofs.put_side.Tie as tie
+use Rattle.listing.proofs.put_side.Statement.{statement}
+use Rattle.listing.proofs.put_side.Tie as tie
 
 slice-write-out : tie.Need-slice-write-out
 slice-write-out c = search needs

@@ -1,14 +1,14 @@
--- `side_lines::put_threshold` meets its contract: the word is stored, and then the digits. Assumes nothing.
+-- `listing::put_threshold` meets its contract: the word is stored, and then the digits. Assumes nothing.
 use mathlib.Core.Path.{subst}
 use Prim.Native.Nat.{ℕ}
 use native.Mathlib.Omega.{arith}
 use borrow.Author.Needs.{needs}
 use Rattle.digits.specs.Digits.{hexOf}
 use Rattle.digits.specs.Put.{Put}
-use Rattle.side_lines.specs.Lines.{spotOf}
+use Rattle.listing.specs.Listing.{spotOf}
 use Rattle.digits.proofs.Puts.{joined}
-use Rattle.side_lines.proofs.put_threshold.Statement.{statement}
-use Rattle.side_lines.proofs.put_threshold.Tie as tie
+use Rattle.listing.proofs.put_threshold.Statement.{statement}
+use Rattle.listing.proofs.put_threshold.Tie as tie
 
 slice-aggregate-put-bytes : tie.Need-slice-aggregate-put-bytes
 slice-aggregate-put-bytes c = search needs

@@ -1,2 +1,0 @@
--- How long a side's line may be.
-pub mod Room
