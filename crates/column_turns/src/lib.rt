@@ -1,6 +1,7 @@
 // The search of one column, turn by turn (depth2.rs): the first interval that waits is pruned, its middle cut tried, and what is left of it waits in parts.
 use cut_try::MARKS;
 use cut_try::RING;
+use feasible_cuts::support_feasible_splits;
 use interval_pruner::Bound;
 use interval_pruner::Shrunk;
 use interval_pruner::Tried;
@@ -460,11 +461,7 @@ pub fn search_column(
     ensures lent { λ _. ⌜ Became (size .rows) (now (scratch .entry)) (now (scratch .exit)) (tableOf (size .rows) (now (scratch .exit))) (ringOf (size .rows) (now (scratch .exit))) ⌝ }
 {
     let places = places_of(size, cuts, counts, column);
-    let run = feasible_cuts::support_feasible_splits(
-        places,
-        size.rows,
-        wide_support(terms.support),
-    );
+    let run = support_feasible_splits(places, size.rows, wide_support(terms.support));
     if run.end <= run.first {
         return standing;
     }
