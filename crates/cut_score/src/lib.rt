@@ -55,7 +55,7 @@ pub fn fall(skip: u32) -> u32
 }
 
 // A side's first row has no previous value.
-fn is_same(started: bool, previous: f64, value: f64) -> bool
+pub fn is_same(started: bool, previous: f64, value: f64) -> bool
     ensures { λ r. ⌜ r ≡ (started && eq previous value) ⌝ }
 {
     if started { previous == value } else { false }

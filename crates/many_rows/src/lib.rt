@@ -1,8 +1,8 @@
 // A column of many rows: both sides of a root split in one pass, by the side's number.
 ghost use mathlib.Core.Path.{_≡_};
-ghost use mathlib.Core.Bool.{false, _&&_};
+ghost use mathlib.Core.Bool.{false};
 ghost use Prim.Native.Nat.{_+_, _-_, _≤_, _<_};
-ghost use lib.Ieee.{nan, eq};
+ghost use lib.Ieee.{nan};
 ghost use lib.ListN.{length, getD};
 ghost use Rattle.sheet.specs.Limits.{mostRows};
 ghost use Rattle.cut_score.specs.Scored.{splitBy, notBegun, standAfter, passed, untilAfter, Scorable, cutOf};
@@ -17,6 +17,7 @@ use cut_score::Cut;
 use cut_score::Share;
 use cut_score::Stand;
 use cut_score::Verdict;
+use cut_score::is_same;
 use cut_score::split_of;
 use sheet::MOST_LABELS;
 use sheet::MOST_ROWS;
@@ -85,13 +86,6 @@ fn count_row(stand: Stand, row: usize) -> Stand
         until: stand.until,
         last: row,
     }
-}
-
-// A side's first row has no previous value.
-fn is_same(started: bool, previous: f64, value: f64) -> bool
-    ensures { λ r. ⌜ r ≡ (started && eq previous value) ⌝ }
-{
-    if started { previous == value } else { false }
 }
 
 // Whether a row is only counted: it is skipped, for its side counts `until` rows first, or its value is the side's previous one, that of row `last`.
