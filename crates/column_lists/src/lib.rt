@@ -1,24 +1,9 @@
 // One column's lists: its rows in sorted order, and the places where its value rises.
 ghost use mathlib.Core.Path.{_≡_};
-ghost use Prim.Native.Nat.{_<_};
-ghost use lib.Ieee.{nan, lt};
-ghost use lib.ListN.{length, getD, replicate};
+ghost use lib.ListN.{length, replicate};
 ghost use Rattle.column_lists.specs.Lists.{orderOf, cutsAlong, padded, cutsOf, countOf};
 ghost use Rattle.column_lists.specs.Steps.{Ordering, Column};
-
-fn wide(x: u16) -> usize
-    ensures { λ r. ⌜ r ≡ x ⌝ }
-{
-    x as usize
-}
-
-// Whether a row's value is below another's.
-fn below(values: &[f64], a: u16, b: u16) -> bool
-    requires { ⌜ (a < length (now values)) × (b < length (now values)) ⌝ }
-    ensures { λ r. ⌜ r ≡ lt (getD (now (values .entry)) a nan) (getD (now (values .entry)) b nan) ⌝ }
-{
-    values[wide(a)] < values[wide(b)]
-}
+use order::below;
 
 fn clear(words: &mut [u16])
     ensures { λ _. ⌜ now (words .exit) ≡ replicate (length (now (words .entry))) 0 ⌝ }

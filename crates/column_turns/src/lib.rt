@@ -10,6 +10,8 @@ use interval_queue::Popped;
 use interval_queue::Queue;
 use interval_steps::Reach;
 use interval_steps::Standing;
+use numbers::wide_entry;
+use numbers::wide_word;
 use sheet::Size;
 use sheet::Terms;
 use tree::Tree;
@@ -170,12 +172,6 @@ fn keep_errors(
     interval_pruner::add_result(&mut scratch[..end], zeros, cut, left, right)
 }
 
-fn wide(x: u16) -> usize
-    ensures { λ r. ⌜ r ≡ x ⌝ }
-{
-    x as usize
-}
-
 // ---- one interval
 
 // The places of a column's cuts.
@@ -184,7 +180,7 @@ fn places_of<'a>(size: Size, cuts: &'a [u16], counts: &[u16], column: usize) -> 
     ensures { λ r. ⌜ ((values : List Float) (codes order : List ℕ) → now r ≡ placesOf (sheetOf size values codes order (now (cuts .entry)) (now (counts .entry))) column) ⌝ }
 {
     let base = column * size.rows;
-    let end = base + wide(counts[column]);
+    let end = base + wide_entry(counts[column]);
     &cuts[base..end]
 }
 
@@ -437,12 +433,6 @@ fn run_column(
     course.standing
 }
 
-fn wide_support(support: u32) -> usize
-    ensures { λ r. ⌜ r ≡ support ⌝ }
-{
-    support as usize
-}
-
 // One column's search.
 pub fn search_column(
     size: Size,
@@ -461,7 +451,7 @@ pub fn search_column(
     ensures lent { λ _. ⌜ Became (size .rows) (now (scratch .entry)) (now (scratch .exit)) (tableOf (size .rows) (now (scratch .exit))) (ringOf (size .rows) (now (scratch .exit))) ⌝ }
 {
     let places = places_of(size, cuts, counts, column);
-    let run = support_feasible_splits(places, size.rows, wide_support(terms.support));
+    let run = support_feasible_splits(places, size.rows, wide_word(terms.support));
     if run.end <= run.first {
         return standing;
     }

@@ -1,12 +1,13 @@
 // The two sides of one cut, asked for by themselves.
 use leaves_score::Sides;
+use numbers::wide_entry;
 use sheet::Checked;
 use sheet::Size;
 use sheet::Terms;
 use sheet::WORDS_PER_ROW;
 use tree::Tree;
 ghost use mathlib.Core.Path.{_≡_};
-ghost use Prim.Native.Nat.{ℕ, _*_, _≤_, _<_};
+ghost use Prim.Native.Nat.{ℕ, _≤_};
 ghost use mathlib.Core.Bool.{_&&_};
 ghost use mathlib.Core.List.{List};
 ghost use lib.Dec.{ltb};
@@ -16,12 +17,6 @@ ghost use Rattle.cut_try.specs.Try.{triedTree};
 ghost use Rattle.cut_try.specs.Lent.{tableOf, ringOf, Enough, Became};
 ghost use Rattle.cut_scan.specs.CutScan.{scannedAt, scannedOf};
 ghost use Rattle.cut_try.specs.Ready.{Trying, Whole};
-
-fn wide(x: u16) -> usize
-    ensures { λ r. ⌜ r ≡ x ⌝ }
-{
-    x as usize
-}
 
 // The two sides of a cut; or why there are none, with 0 for a column or a cut number that is not there.
 pub enum Scanned {
@@ -63,7 +58,7 @@ fn is_listed(size: Size, counts: &[u16], column: usize, cut: usize) -> bool
     if size.columns <= column {
         return false;
     }
-    let listed = wide(counts[column]);
+    let listed = wide_entry(counts[column]);
     cut < listed
 }
 

@@ -1,10 +1,11 @@
 // One cut tried as the first question: its threshold, the rows' marks, and the best of each side below it.
 use leaves_score::Sides;
+use numbers::wide_entry;
 use sheet::Size;
 use tree::Side;
 use tree::Tree;
 ghost use mathlib.Core.Path.{_≡_};
-ghost use Prim.Native.Nat.{ℕ, _+_, _-_, _*_, _≤_, _<_};
+ghost use Prim.Native.Nat.{ℕ, _+_, _*_, _≤_, _<_};
 ghost use mathlib.Core.List.{List, []};
 ghost use lib.Dec.{ltb};
 ghost use lib.ListN.{length, getD};
@@ -27,12 +28,6 @@ pub const MARKS: usize = 6;
 
 pub const SPARE: usize = 7;
 
-fn wide(x: u16) -> usize
-    ensures { λ r. ⌜ r ≡ x ⌝ }
-{
-    x as usize
-}
-
 // 0 for a place before the cut's, else 1.
 fn side_mark(i: usize, place: usize) -> u32
     ensures { λ r. ⌜ r ≡ pick (ltb i place) 0 1 ⌝ }
@@ -49,7 +44,7 @@ fn mark_sides(size: Size, order: &[u16], column: usize, place: usize, marks: &mu
     let base = column * size.rows;
     let mut i: usize = 0;
     while i < size.rows {
-        let row = wide(order[base + i]);
+        let row = wide_entry(order[base + i]);
         let mark = side_mark(i, place);
         marks[row] = mark;
         i += 1;
@@ -64,7 +59,7 @@ fn preceding_place(cuts: &[u16], base: usize, cut: usize) -> usize
     if cut == 0 {
         return 0;
     }
-    wide(cuts[base + cut - 1])
+    wide_entry(cuts[base + cut - 1])
 }
 
 // The threshold of a cut as the first question.
@@ -81,7 +76,7 @@ fn root_threshold(
 {
     let base = column * size.rows;
     let from = preceding_place(cuts, base, cut);
-    let place = wide(cuts[base + cut]);
+    let place = wide_entry(cuts[base + cut]);
     let lower = sheet::value_at(values, order, base, from);
     let upper = sheet::value_at(values, order, base, place);
     threshold::threshold_between(lower, upper)
@@ -113,7 +108,7 @@ fn mark_cut(size: Size, order: &[u16], cuts: &[u16], column: usize, cut: usize, 
 {
     let rows = size.rows;
     let base = column * rows;
-    let place = wide(cuts[base + cut]);
+    let place = wide_entry(cuts[base + cut]);
     let from = MARKS * rows;
     let to = SPARE * rows;
     mark_sides(size, order, column, place, &mut scratch[from..to]);

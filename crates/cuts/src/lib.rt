@@ -4,6 +4,7 @@ ghost use Prim.Native.Nat.{_-_, _^_, _≤_, _<_, max};
 ghost use lib.ListN.{length};
 ghost use Rattle.basics.specs.Walk.{walk};
 ghost use Rattle.cuts.specs.Lookups.{place, Ascending, Sought, above, endOf, lowerBoundOf, upperBoundOf};
+use numbers::wide_entry;
 
 // A run of cut numbers, from `first` up to and without `end`; none where the two are equal.
 pub struct Run {
@@ -16,19 +17,16 @@ pub struct CutReader<'a> {
     pub places: &'a [u16],
 }
 
-fn wide(place: u16) -> usize
-    ensures { λ r. ⌜ r ≡ place ⌝ }
-    ensures fits { λ r. ⌜ r < 2 ^ 16 ⌝ }
-{
-    place as usize
-}
-
 // Where cut number k stands; 0 for a number past the list.
 pub fn place_at(cuts: &[u16], k: usize) -> usize
     ensures { λ r. ⌜ r ≡ place (now (cuts .entry)) k ⌝ }
     ensures fits { λ r. ⌜ r < 2 ^ 16 ⌝ }
 {
-    if k < cuts.len() { wide(cuts[k]) } else { 0 }
+    if k < cuts.len() {
+        wide_entry(cuts[k])
+    } else {
+        0
+    }
 }
 
 // The first cut of those from `low` up to and without `high` that is placed above `value`, `high` if none is: by halving.
@@ -41,7 +39,7 @@ pub fn first_above(cuts: &[u16], low: usize, high: usize, value: usize) -> usize
     let mut to = high;
     while from < to {
         let middle = from + (to - from) / 2;
-        if value < wide(cuts[middle]) {
+        if value < wide_entry(cuts[middle]) {
             to = middle;
         } else {
             from = middle + 1;

@@ -1,4 +1,5 @@
 // Reason 9 of the input check: a column's count and cuts are exactly its value changes.
+use numbers::wide_entry;
 use sheet::Size;
 ghost use mathlib.Core.Path.{_≡_};
 ghost use Prim.Native.Nat.{_+_, _<_};
@@ -11,19 +12,13 @@ ghost use Rattle.sheet.specs.Check.{sheetOf, badCuts, cutsOf, same};
 ghost use Rattle.sheet.specs.Sheet.{placesOf};
 ghost use Rattle.sheet.specs.Ready.{Cutting};
 
-fn wide(x: u16) -> usize
-    ensures { λ r. ⌜ r ≡ x ⌝ }
-{
-    x as usize
-}
-
 // Whether cut number `number` of the column whose entries start at base is listed, at that place.
 fn is_listed(cuts: &[u16], base: usize, count: usize, number: usize, place: usize) -> bool
     requires { ⌜ base + number < length (now cuts) ⌝ }
     ensures { λ r. ⌜ r ≡ (ltb number count && eqb (getD (now (cuts .entry)) (base + number) 0) place) ⌝ }
 {
     if number < count {
-        wide(cuts[base + number]) == place
+        wide_entry(cuts[base + number]) == place
     } else {
         false
     }
@@ -42,7 +37,7 @@ fn cuts_match(
     ensures { λ r. ⌜ r ≡ same (placesOf (sheetOf size (now (values .entry)) [] (now (order .entry)) (now (cuts .entry)) (now (counts .entry))) column) (cutsOf (sheetOf size (now (values .entry)) [] (now (order .entry)) (now (cuts .entry)) (now (counts .entry))) column) ⌝ }
 {
     let base = column * size.rows;
-    let count = wide(counts[column]);
+    let count = wide_entry(counts[column]);
     let mut found: usize = 0;
     let mut i: usize = 1;
     while i < size.rows {

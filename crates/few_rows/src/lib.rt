@@ -6,22 +6,12 @@ ghost use Rattle.basics.specs.Choice.{pick};
 ghost use Rattle.two_sides.specs.Column.{scanColumn};
 ghost use Rattle.two_sides.specs.Kept.{BothAlike};
 ghost use Rattle.two_sides.specs.Lists.{sheetOf, goLeft, ReadyColumn, ReadySide, walked};
+use numbers::wide_byte;
+use numbers::wide_entry;
 use sheet::MOST_ROWS;
 use sheet::Size;
 use side_scan::SideScan;
 use two_sides::Two;
-
-fn row_number(entry: u16) -> usize
-    ensures { λ r. ⌜ r ≡ entry ⌝ }
-{
-    entry as usize
-}
-
-fn label_number(code: u8) -> usize
-    ensures { λ r. ⌜ r ≡ code ⌝ }
-{
-    code as usize
-}
 
 // Whether a row whose side has that number is of the side asked for.
 fn is_own(side: u8, left: bool) -> bool
@@ -48,9 +38,9 @@ fn walk_side(
     let base = column * size.rows;
     let mut i: usize = 0;
     while i < size.rows {
-        let row = row_number(order[base + i]);
+        let row = wide_entry(order[base + i]);
         if is_own(sides[row], left) {
-            let label = label_number(codes[row]);
+            let label = wide_byte(codes[row]);
             let value = values[base + row];
             next = side_scan::advanced(next, column, label, value);
         }

@@ -7,6 +7,7 @@ ghost use lib.Dec.{eqb};
 ghost use Rattle.basics.specs.Choice.{pick};
 ghost use Rattle.interval_pruner.specs.Column.{recorded};
 ghost use Rattle.interval_pruner.specs.Pruner.{highest, lowest, zerosAfter, recordedAfter, short};
+use numbers::wide_word;
 
 // A tried cut, by its number, if there is one.
 pub enum Tried {
@@ -41,13 +42,6 @@ pub struct Parts {
 }
 
 // ---- numbers. An error, a gap and a bound are u32, so that their sums fit a usize: the Rust's saturating sums have nothing to do here.
-
-fn wide(x: u32) -> usize
-    ensures { λ r. ⌜ r ≡ x ⌝ }
-    ensures fits { λ r. ⌜ r < 2 ^ 32 ⌝ }
-{
-    x as usize
-}
 
 // ---- what was tried
 
@@ -114,7 +108,11 @@ fn at(table: &[u32], i: usize) -> usize
     ensures { λ r. ⌜ r ≡ getD (now (table .entry)) i 0 ⌝ }
     ensures fits { λ r. ⌜ r < 2 ^ 32 ⌝ }
 {
-    if i < table.len() { wide(table[i]) } else { 0 }
+    if i < table.len() {
+        wide_word(table[i])
+    } else {
+        0
+    }
 }
 
 // A cut past the table is not asked for, as in `store_both`.
@@ -154,5 +152,5 @@ pub fn sum_at(table: &[u32], cut: usize, gap: u32) -> usize
     ensures { λ r. ⌜ r ≡ recorded (now (table .entry)) cut .0 + recorded (now (table .entry)) cut .1 + gap ⌝ }
     ensures fits { λ r. ⌜ r < 3 * 2 ^ 32 ⌝ }
 {
-    left_at(table, cut) + right_at(table, cut) + wide(gap)
+    left_at(table, cut) + right_at(table, cut) + wide_word(gap)
 }

@@ -1,8 +1,9 @@
 // The intervals that wait, first in first out: a ring in lent words, four words an interval (the original's `VecDeque`).
 use interval_pruner::Bound;
 use interval_pruner::Tried;
+use numbers::wide_word;
 ghost use mathlib.Core.Path.{_≡_};
-ghost use Prim.Native.Nat.{_+_, _*_, _/_, _<_, _≤_};
+ghost use Prim.Native.Nat.{_+_, _/_, _<_, _≤_};
 ghost use lib.ListN.{length};
 ghost use Rattle.interval_queue.specs.Ring.{slotOf, wordOf, markOf, cutOf, stored, loaded, pushedWords, pushed, popped, emptyBound};
 
@@ -38,12 +39,6 @@ fn slot(head: usize, k: usize, slots: usize) -> usize
     if at < slots { at } else { at - slots }
 }
 
-fn wide(x: u32) -> usize
-    ensures { λ r. ⌜ r ≡ x ⌝ }
-{
-    x as usize
-}
-
 // A number as a word. Cut numbers are far below the largest word.
 fn word(n: usize) -> u32
     ensures { λ r. ⌜ r ≡ wordOf n ⌝ }
@@ -77,7 +72,7 @@ fn cut(word: u32) -> Tried
     if word == 0 {
         Tried::Nothing
     } else {
-        Tried::Cut(wide(word) - 1)
+        Tried::Cut(wide_word(word) - 1)
     }
 }
 
@@ -100,8 +95,8 @@ fn load(words: &[u32], at: usize) -> Bound
     let left = cut(words[at + LEFT]);
     let right = cut(words[at + RIGHT]);
     Bound {
-        first: wide(words[at]),
-        last: wide(words[at + LAST]),
+        first: wide_word(words[at]),
+        last: wide_word(words[at + LAST]),
         left,
         right,
     }

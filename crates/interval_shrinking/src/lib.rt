@@ -3,20 +3,13 @@ use interval_pruner::Bound;
 use interval_pruner::Shrunk;
 use interval_pruner::Tried;
 use interval_pruner::Zeros;
+use numbers::wide_word;
 ghost use mathlib.Core.Path.{_≡_};
-ghost use Prim.Native.Nat.{_^_, _<_};
 ghost use mathlib.Core.Bool.{true};
 ghost use mathlib.Core.List.{[]};
 ghost use Rattle.cuts.specs.Lookups.{Ascending};
 ghost use Rattle.interval_pruner.specs.Column.{columnOf};
 ghost use Rattle.interval_pruner.specs.Pruner.{past, short, within, startAfter, endAbove, endBefore, shrunkOf};
-
-fn wide(x: u32) -> usize
-    ensures { λ r. ⌜ r ≡ x ⌝ }
-    ensures fits { λ r. ⌜ r < 2 ^ 32 ⌝ }
-{
-    x as usize
-}
 
 // The interval from `first` to `last` that remembers what `bound` does, if it is not empty.
 fn between(bound: Bound, first: usize, last: usize) -> Shrunk
@@ -67,7 +60,7 @@ fn away_from_left(cuts: &[u16], table: &[u32], bound: Bound, gap: u32, best: u32
         Tried::Nothing => between(bound, first, last),
         Tried::Cut(k) => {
             let sum = interval_pruner::sum_at(table, k, gap);
-            let limit = wide(best);
+            let limit = wide_word(best);
             if sum < limit {
                 return between(bound, first, last);
             }
@@ -104,7 +97,7 @@ fn away_from_right(cuts: &[u16], table: &[u32], bound: Bound, gap: u32, best: u3
         Tried::Nothing => between(bound, bound.first, bound.last),
         Tried::Cut(k) => {
             let sum = interval_pruner::sum_at(table, k, gap);
-            let limit = wide(best);
+            let limit = wide_word(best);
             if sum < limit {
                 return between(bound, bound.first, bound.last);
             }

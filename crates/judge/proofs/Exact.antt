@@ -19,6 +19,7 @@ use Rattle.threshold.specs.Threshold.{goesLeft}
 use Rattle.sheet.specs.Sheet.{Sheet, valueOf, everyRow}
 use Rattle.sheet.specs.Check.{cellsOf, sizeHolds, badValue, badLabel}
 use Rattle.sheet.proofs.Search.{clean-walk, walk-bad}
+use Rattle.sheet.proofs.Numbered.{None, next, none0}
 use Rattle.sheet.proofs.Answer.{limited}
 use Rattle.sheet.proofs.Exact.{size-to, size-from, value-to, value-from, label-to, label-from}
 use Rattle.tree.specs.declared.Side.{Side}
@@ -92,9 +93,6 @@ module _ (s : Sheet) (t : Tree) where
   abbrev C : ℕ → ℕ → Type 0
   C n p = Condition s t n p
 
-  abbrev None : ℕ → Type 0
-  None k = (m q : ℕ) → m ≤ k → C m q → ⊥
-
   abbrev Earlier : ℕ → ℕ → Type 0
   Earlier n p = (q : ℕ) → q < p → C n q → ⊥
 
@@ -102,20 +100,11 @@ module _ (s : Sheet) (t : Tree) where
   Fitting (Judged j) = (j ≡ judgementOf s t) × ((n p : ℕ) → C n p → ⊥)
   Fitting (TurnedBack n p) = First s t n p
 
-  next : (k : ℕ) → None k → ((q : ℕ) → C (suc k) q → ⊥) → None (suc k)
-  next k none here m q h x = reach m (suc k) h (λ e. here q (subst (λ n. C n q) e x)) (λ l. none m q (omega arith) x)
-
-  none0 : None 0
-  none0 m q h x = subst (λ n. C n q) (zero-only m h) x
-    where
-      zero-only : (m : ℕ) → m ≤ 0 → m ≡ 0
-      zero-only m h = omega arith
-
   at-start : (n : ℕ) → Earlier n 0
   at-start n q h x = absurd (omega arith)
 
   -- a test of one place
-  by-back : (k p : ℕ) (bad : Bool) (rest : Verdict) → (C (suc k) p → T bad) → (T bad → C (suc k) p) → None k → Earlier (suc k) p
+  by-back : (k p : ℕ) (bad : Bool) (rest : Verdict) → (C (suc k) p → T bad) → (T bad → C (suc k) p) → None C k → Earlier (suc k) p
       → (T (not bad) → Earlier (suc k) (suc p) → Fitting rest) → Fitting (back (suc k) p bad rest)
   unfolding back
   by-back k p bad rest to from none earlier go =
@@ -127,12 +116,12 @@ module _ (s : Sheet) (t : Tree) where
       reach q p (omega arith) (λ e. T-not bad u (to (subst (λ n. C (suc k) n) e x))) (λ l. earlier q l x)))
 
   -- all its places passed
-  past : (k places : ℕ) → ((q : ℕ) → C (suc k) q → q < places) → None k → Earlier (suc k) places → None (suc k)
-  past k places inside none earlier = next k none (λ q x. earlier q (inside q x) x)
+  past : (k places : ℕ) → ((q : ℕ) → C (suc k) q → q < places) → None C k → Earlier (suc k) places → None C (suc k)
+  past k places inside none earlier = next C k none (λ q x. earlier q (inside q x) x)
 
   -- a search of many places
   by-scan : (k places : ℕ) (bad : ℕ → Bool) (rest : Verdict) → ((q : ℕ) → C (suc k) q → (q < places) × T (bad q))
-      → ((q : ℕ) → q < places → T (bad q) → C (suc k) q) → None k → (None (suc k) → Fitting rest)
+      → ((q : ℕ) → q < places → T (bad q) → C (suc k) q) → None C k → (None C (suc k) → Fitting rest)
       → Fitting (backFirst (suc k) places bad rest)
   unfolding backFirst back
   by-scan k places bad rest to from none go =
@@ -144,7 +133,7 @@ module _ (s : Sheet) (t : Tree) where
         no-earlier = λ q h x. T-not (bad q) (clean-walk bad places .none q h) (to q x .1);
         no-lower = λ m q h x. none m q (omega arith) x;
       })
-      (λ g. go (next k none (λ q x. let w = to q x in T-not (bad q) (clean-walk bad places .none q (omega (arith, w .0))) (w .1))))
+      (λ g. go (next C k none (λ q x. let w = to q x in T-not (bad q) (clean-walk bad places .none q (omega (arith, w .0))) (w .1))))
 
   beyond : (m q : ℕ) → 12 < m → C m q → ⊥
   beyond m q h x = subst (λ X. X) (List·getD-eq-default (conditionsOf s t q) ⊥ {n = m} (omega arith)) x
@@ -157,7 +146,7 @@ module _ (s : Sheet) (t : Tree) where
   only q e = omega arith
 
   -- reasons 10, 11 and 12
-  tree-fits : None 9 → Fitting (treeChecked s t)
+  tree-fits : None C 9 → Fitting (treeChecked s t)
   unfolding treeChecked
   tree-fits n9 =
       by-back 9 0 (leb (s .columns) (t .column)) (rest1 s t) (le→leb (s .columns) (t .column)) (leb→le (s .columns) (t .column)) n9 (at-start 10)
@@ -166,20 +155,20 @@ module _ (s : Sheet) (t : Tree) where
       (λ _ a1.
       by-back 9 2 (badColumn (s .columns) (t .right)) (rest3 s t) (column-to (s .columns) (t .right)) (column-from (s .columns) (t .right)) n9 a1
       (λ _ a2.
-      let n10 : None 10 = past 9 3 (three (s .columns ≤ t .column) (AsksHigh (s .columns) (t .left)) (AsksHigh (s .columns) (t .right))) n9 a2 in
+      let n10 : None C 10 = past 9 3 (three (s .columns ≤ t .column) (AsksHigh (s .columns) (t .left)) (AsksHigh (s .columns) (t .right))) n9 a2 in
       by-back 10 1 (badLeaf (s .labels) (t .left)) (rest4 s t) (leaf-to (s .labels) (t .left)) (leaf-from (s .labels) (t .left)) n10
       (λ q h x. subst (λ n. C 11 n) (zero-only q h) x)
       (λ _ b1.
       by-back 10 2 (badLeaf (s .labels) (t .right)) (rest5 s t) (leaf-to (s .labels) (t .right)) (leaf-from (s .labels) (t .right)) n10 b1
       (λ _ b2.
-      let n11 : None 11 = past 10 3 (three ⊥ (LeafAbove (s .labels) (t .left)) (LeafAbove (s .labels) (t .right))) n10 b2 in
+      let n11 : None C 11 = past 10 3 (three ⊥ (LeafAbove (s .labels) (t .left)) (LeafAbove (s .labels) (t .right))) n10 b2 in
       by-back 11 0 (not (finite (t .threshold))) (rest6 s t) (not-T (finite (t .threshold))) (T-not (finite (t .threshold))) n11 (at-start 12)
       (λ _ c0.
       by-back 11 1 (badThreshold (t .left)) (rest7 s t) (endless-to (t .left)) (endless-from (t .left)) n11 c0
       (λ _ c1.
       by-back 11 2 (badThreshold (t .right)) (rest8 s t) (endless-to (t .right)) (endless-from (t .right)) n11 c1
       (λ _ c2.
-      let n12 : None 12 = past 11 3 (three (T (finite (t .threshold)) → ⊥) (AsksEndless (t .left)) (AsksEndless (t .right))) n11 c2 in
+      let n12 : None C 12 = past 11 3 (three (T (finite (t .threshold)) → ⊥) (AsksEndless (t .left)) (AsksEndless (t .right))) n11 c2 in
       (refl, λ m q x. order m 12 (λ l. n12 m q l x) (λ g. beyond m q g x))))))))))
     where
       zero-only : (q : ℕ) → q < 1 → q ≡ 0
@@ -188,18 +177,18 @@ module _ (s : Sheet) (t : Tree) where
   fitting : Fitting (judgeOf s t)
   unfolding judgeOf
   fitting =
-      by-back 0 0 (not (sizeHolds s)) (after1 s t) (λ x. size-to s (x .1)) (λ u. (refl, size-from s u)) none0 (at-start 1)
+      by-back 0 0 (not (sizeHolds s)) (after1 s t) (λ x. size-to s (x .1)) (λ u. (refl, size-from s u)) (none0 C (λ q x. x)) (at-start 1)
       (λ a e1.
       let some : 1 ≤ s .rows = limited s (twice (sizeHolds s) a) .rows-some in
-      let n1 : None 1 = past 0 1 (λ q x. only q (x .0)) none0 e1 in
+      let n1 : None C 1 = past 0 1 (λ q x. only q (x .0)) (none0 C (λ q x. x)) e1 in
       by-back 1 0 (not (judgedHolds s)) (after2 s t) (λ x. lengths-to s (x .1)) (λ u. (refl, lengths-from s u)) n1 (at-start 2)
       (λ _ e2.
-      let n2 : None 2 = past 1 1 (λ q x. only q (x .0)) n1 e2 in
-      let n4 : None 4 = next 3 (next 2 n2 (λ q x. x)) (λ q x. x) in
+      let n2 : None C 2 = past 1 1 (λ q x. only q (x .0)) n1 e2 in
+      let n4 : None C 4 = next C 3 (next C 2 n2 (λ q x. x)) (λ q x. x) in
       by-scan 4 (cellsOf s) (badValue (s .values)) (after5 s t) (value-to s some) (value-from s some) n4
       (λ n5.
       by-scan 5 (s .rows) (badLabel (s .codes) (s .labels)) (treeChecked s t) (label-to s) (label-from s) n5
-      (λ n6. tree-fits (next 8 (next 7 (next 6 n6 (λ q x. x)) (λ q x. x)) (λ q x. x))))))
+      (λ n6. tree-fits (next C 8 (next C 7 (next C 6 n6 (λ q x. x)) (λ q x. x)) (λ q x. x))))))
 
   -- ---- two answers that fit are the same
 

@@ -9,6 +9,7 @@ ghost use Rattle.sheet.specs.Check.{sheetOf};
 ghost use Rattle.sheet.specs.Limits.{mostRows};
 ghost use Rattle.judge_rows.specs.Mistakes.{wrongSum, judgementOf};
 ghost use Rattle.judge_rows.specs.Passing.{badColumn, Shaped, Within, Asking, passedOf, nextOf, wrongOf};
+use numbers::wide_byte;
 use sheet::Size;
 use tree::Side;
 use tree::Tree;
@@ -40,12 +41,6 @@ pub struct Passed {
     pub right: Seen,
 }
 
-fn wide(x: u8) -> usize
-    ensures { λ r. ⌜ r ≡ x ⌝ }
-{
-    x as usize
-}
-
 fn smaller(a: u32, b: u32) -> u32
     ensures { λ r. ⌜ r ≡ min a b ⌝ }
 {
@@ -65,7 +60,7 @@ fn next(size: Size, values: &[f64], codes: &[u8], side: Side, row: usize, seen: 
     requires { ⌜ Shaped size (now values) (now codes) × T (not (badColumn (size .columns) side)) × (row < size .rows) × Within seen row ⌝ }
     ensures { λ r. ⌜ r ≡ nextOf (sheetOf size (now (values .entry)) (now (codes .entry)) [] [] []) side row seen ⌝ }
 {
-    let code = wide(codes[row]);
+    let code = wide_byte(codes[row]);
     let rows = seen.rows + 1;
     match side {
         Side::Leaf { label, .. } => {

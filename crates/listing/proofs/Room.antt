@@ -16,7 +16,7 @@ use Rattle.tree.specs.declared.Answer.the-variants.{TurnedBack, Kept, Found}
 use Rattle.digits.specs.Digits.{decimalOf, hexOf}
 use Rattle.digits.specs.Put.{Put}
 use Rattle.listing.specs.Words.{foundErrorWord, keptErrorWord, refusedWord, placeWord, columnWord, spotWord, triedWord, leafLabelWord, errorWord, splitColumnWord, leftWord, rightWord, slashWord, newlineWord, leftMark, rightMark}
-use Rattle.listing.specs.Listing.{field, spotOf, scoreOf, leafOf, splitOf, sideOf, foundOf, keptOf, refusedOf, ruleOf, listingOf, longest, writtenOf, outOf, RoomForEvery}
+use Rattle.listing.specs.Listing.{field, spotOf, questionOf, scoreOf, lineOf, leafOf, splitOf, sideOf, foundOf, keptOf, refusedOf, ruleOf, listingOf, longest, writtenOf, outOf, RoomForEvery}
 use Rattle.digits.proofs.Puts.{length-digits}
 use Rattle.digits.proofs.Decimal.{decimal-most}
 
@@ -32,6 +32,10 @@ spot-most : (threshold : Float) → length (spotOf threshold) ≤ 20
 unfolding spotOf hexOf
 spot-most threshold = omega (arith, length-append spotWord (hexOf (toBits binary64 threshold)), length-digits 16 16 (toBits binary64 threshold))
 
+question-most : (word : List ℕ) (column : ℕ) (threshold : Float) → length (questionOf word column threshold) ≤ length word + 40
+unfolding questionOf
+question-most word column threshold = omega (arith, both (field word column) (spotOf threshold) (field-most word column) (spot-most threshold))
+
 score-most : (word : List ℕ) (label error : ℕ) → length (scoreOf word label error) ≤ length word + 41
 unfolding scoreOf
 score-most word label error = omega (arith, both (field word label) (field slashWord error) (field-most word label) (field-most slashWord error))
@@ -39,20 +43,20 @@ score-most word label error = omega (arith, both (field word label) (field slash
 line-most : length newlineWord ≤ 1
 line-most = omega arith
 
+two-fields : (one two : List ℕ) (m n : ℕ) → length (lineOf one m two n) ≤ length one + 20 + (length two + 20) + 1
+unfolding lineOf
+two-fields one two m n = both (field one m ++ field two n) newlineWord (both (field one m) (field two n) (field-most one m) (field-most two n)) line-most
+
 leaf-most : (label error : ℕ) → length (leafOf label error) ≤ 60
 unfolding leafOf
-leaf-most label error =
-    both (field leafLabelWord label ++ field errorWord error) newlineWord
-    (both (field leafLabelWord label) (field errorWord error) (field-most leafLabelWord label) (field-most errorWord error)) line-most
+leaf-most label error = omega (arith, two-fields leafLabelWord errorWord label error)
 
 split-most : (column : ℕ) (threshold : Float) (left right lost missed : ℕ) → length (splitOf column threshold left right lost missed) ≤ 150
 unfolding splitOf
 split-most column threshold left right lost missed =
-    both (field splitColumnWord column ++ spotOf threshold ++ scoreOf leftWord left lost ++ scoreOf rightWord right missed) newlineWord
-    (both (field splitColumnWord column ++ spotOf threshold ++ scoreOf leftWord left lost) (scoreOf rightWord right missed)
-    (both (field splitColumnWord column ++ spotOf threshold) (scoreOf leftWord left lost)
-    (both (field splitColumnWord column) (spotOf threshold) (field-most splitColumnWord column) (spot-most threshold))
-    (score-most leftWord left lost))
+    both (questionOf splitColumnWord column threshold ++ scoreOf leftWord left lost ++ scoreOf rightWord right missed) newlineWord
+    (both (questionOf splitColumnWord column threshold ++ scoreOf leftWord left lost) (scoreOf rightWord right missed)
+    (both (questionOf splitColumnWord column threshold) (scoreOf leftWord left lost) (question-most splitColumnWord column threshold) (score-most leftWord left lost))
     (score-most rightWord right missed))
     line-most
 
@@ -64,16 +68,11 @@ side-most mark (Split column threshold left right lost missed) = omega (arith, s
 found-most : (error column : ℕ) (threshold : Float) (tried : ℕ) → length (foundOf error column threshold tried) ≤ 108
 unfolding foundOf
 found-most error column threshold tried =
-    both (field foundErrorWord error ++ field columnWord column ++ spotOf threshold ++ field triedWord tried) newlineWord
-    (both (field foundErrorWord error ++ field columnWord column ++ spotOf threshold) (field triedWord tried)
-    (both (field foundErrorWord error ++ field columnWord column) (spotOf threshold)
-    (both (field foundErrorWord error) (field columnWord column) (field-most foundErrorWord error) (field-most columnWord column))
-    (spot-most threshold))
+    both (field foundErrorWord error ++ questionOf columnWord column threshold ++ field triedWord tried) newlineWord
+    (both (field foundErrorWord error ++ questionOf columnWord column threshold) (field triedWord tried)
+    (both (field foundErrorWord error) (questionOf columnWord column threshold) (field-most foundErrorWord error) (question-most columnWord column threshold))
     (field-most triedWord tried))
     line-most
-
-two-fields : (one two : List ℕ) (m n : ℕ) → length (field one m ++ field two n ++ newlineWord) ≤ length one + 20 + (length two + 20) + 1
-two-fields one two m n = both (field one m ++ field two n) newlineWord (both (field one m) (field two n) (field-most one m) (field-most two n)) line-most
 
 pub room-for-every : RoomForEvery
 unfolding listingOf keptOf refusedOf ruleOf

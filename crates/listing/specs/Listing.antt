@@ -21,18 +21,26 @@ field word n = word ++ decimalOf n
 unfoldable pub spotOf : Float → List ℕ
 spotOf threshold = spotWord ++ hexOf (toBits binary64 threshold)
 
+-- a column and its threshold: ` column=0 at=4004000000000000`
+unfoldable pub questionOf : List ℕ → ℕ → Float → List ℕ
+questionOf word column threshold = field word column ++ spotOf threshold
+
 -- "`left` and `right` are label/error": ` left=0/0`
 unfoldable pub scoreOf : List ℕ → ℕ → ℕ → List ℕ
 scoreOf word label error = field word label ++ field slashWord error
 
+-- two words, each with a number, and the line's end
+unfoldable pub lineOf : List ℕ → ℕ → List ℕ → ℕ → List ℕ
+lineOf one m two n = field one m ++ field two n ++ newlineWord
+
 -- "A leaf prints `L LEAF label=0 error=1`", after its mark
 unfoldable pub leafOf : ℕ → ℕ → List ℕ
-leafOf label error = field leafLabelWord label ++ field errorWord error ++ newlineWord
+leafOf label error = lineOf leafLabelWord label errorWord error
 
 -- "`L SPLIT column=0 at=3FF8000000000000 left=0/0 right=1/0`", after its mark
 unfoldable pub splitOf : ℕ → Float → ℕ → ℕ → ℕ → ℕ → List ℕ
 splitOf column threshold left right lost missed =
-    field splitColumnWord column ++ spotOf threshold ++ scoreOf leftWord left lost ++ scoreOf rightWord right missed ++ newlineWord
+    questionOf splitColumnWord column threshold ++ scoreOf leftWord left lost ++ scoreOf rightWord right missed ++ newlineWord
 
 unfoldable pub sideOf : ℕ → Side → List ℕ
 sideOf mark (Leaf label error) = mark ∷ leafOf label error
@@ -41,15 +49,15 @@ sideOf mark (Split column threshold left right lost missed) = mark ∷ splitOf c
 -- "`FOUND error=0 column=0 at=4004000000000000 tried=1`"
 unfoldable pub foundOf : ℕ → ℕ → Float → ℕ → List ℕ
 foundOf error column threshold tried =
-    field foundErrorWord error ++ field columnWord column ++ spotOf threshold ++ field triedWord tried ++ newlineWord
+    field foundErrorWord error ++ questionOf columnWord column threshold ++ field triedWord tried ++ newlineWord
 
 -- "no gain prints `KEPT error=2 tried=0`"
 unfoldable pub keptOf : ℕ → ℕ → List ℕ
-keptOf error tried = field keptErrorWord error ++ field triedWord tried ++ newlineWord
+keptOf error tried = lineOf keptErrorWord error triedWord tried
 
 -- "A refused sheet prints `REFUSED 22 place=3`."
 unfoldable pub refusedOf : ℕ → ℕ → List ℕ
-refusedOf number place = field refusedWord number ++ field placeWord place ++ newlineWord
+refusedOf number place = lineOf refusedWord number placeWord place
 
 -- a found rule: its line, and one for each side
 unfoldable pub ruleOf : Tree → ℕ → List ℕ

@@ -4,7 +4,7 @@ ghost use Prim.Native.Nat.{_+_, _≤_};
 ghost use lib.ListN.{length};
 ghost use Rattle.digits.specs.Digits.{mostPlaces};
 ghost use Rattle.digits.specs.Put.{Put};
-ghost use Rattle.listing.specs.Listing.{field, spotOf, scoreOf, leafOf, splitOf, sideOf, foundOf, keptOf, refusedOf, ruleOf, writtenOf, outOf, longest};
+ghost use Rattle.listing.specs.Listing.{field, spotOf, questionOf, scoreOf, lineOf, leafOf, splitOf, sideOf, foundOf, keptOf, refusedOf, ruleOf, writtenOf, outOf, longest};
 use tree::Answer;
 use tree::Side;
 use tree::Tree;
@@ -35,6 +35,16 @@ fn put_threshold(out: &mut [u8], at: usize, threshold: f64) -> usize
     digits::put_hex(out, after, digits::bits_of(threshold))
 }
 
+// A word, a column and a threshold.
+fn put_question(out: &mut [u8], at: usize, word: &[u8], column: usize, threshold: f64) -> usize
+    requires { ⌜ at + length (now word) + 40 ≤ length (now out) ⌝ }
+    ensures text { λ r. ⌜ Put (now (out .entry)) at (questionOf (now (word .entry)) column threshold) r (now (out .exit)) ⌝ }
+    ensures room { λ r. ⌜ r ≤ at + length (now (word .entry)) + 40 ⌝ }
+{
+    let named = put_field(out, at, word, column as u64);
+    put_threshold(out, named, threshold)
+}
+
 // A word, a label and its error.
 fn put_score(out: &mut [u8], at: usize, word: &[u8], label: usize, error: u32) -> usize
     requires { ⌜ at + length (now word) + 41 ≤ length (now out) ⌝ }
@@ -45,15 +55,31 @@ fn put_score(out: &mut [u8], at: usize, word: &[u8], label: usize, error: u32) -
     put_field(out, after, b"/", error as u64)
 }
 
+// Two words, each with a number, and the line's end.
+fn put_line(out: &mut [u8], at: usize, one: &[u8], m: u64, two: &[u8], n: u64) -> usize
+    requires { ⌜ at + length (now one) + length (now two) + 41 ≤ length (now out) ⌝ }
+    ensures text { λ r. ⌜ Put (now (out .entry)) at (lineOf (now (one .entry)) m (now (two .entry)) n) r (now (out .exit)) ⌝ }
+    ensures room { λ r. ⌜ r ≤ at + length (now (one .entry)) + length (now (two .entry)) + 41 ⌝ }
+{
+    let first = put_field(out, at, one, m);
+    let second = put_field(out, first, two, n);
+    digits::put_bytes(out, second, b"\n")
+}
+
 // Past a leaf's mark.
 fn put_leaf(out: &mut [u8], at: usize, label: usize, error: u32) -> usize
     requires { ⌜ at + 60 ≤ length (now out) ⌝ }
     ensures text { λ r. ⌜ Put (now (out .entry)) at (leafOf label error) r (now (out .exit)) ⌝ }
     ensures room { λ r. ⌜ r ≤ at + 60 ⌝ }
 {
-    let labelled = put_field(out, at, b" LEAF label=", label as u64);
-    let scored = put_field(out, labelled, b" error=", error as u64);
-    digits::put_bytes(out, scored, b"\n")
+    put_line(
+        out,
+        at,
+        b" LEAF label=",
+        label as u64,
+        b" error=",
+        error as u64,
+    )
 }
 
 // Past a split's mark.
@@ -71,8 +97,7 @@ fn put_split(
     ensures text { λ r. ⌜ Put (now (out .entry)) at (splitOf column threshold left right lost missed) r (now (out .exit)) ⌝ }
     ensures room { λ r. ⌜ r ≤ at + 150 ⌝ }
 {
-    let named = put_field(out, at, b" SPLIT column=", column as u64);
-    let parted = put_threshold(out, named, threshold);
+    let parted = put_question(out, at, b" SPLIT column=", column, threshold);
     let scored = put_score(out, parted, b" left=", left, lost);
     let both = put_score(out, scored, b" right=", right, missed);
     digits::put_bytes(out, both, b"\n")
@@ -110,8 +135,7 @@ fn put_found(
     ensures room { λ r. ⌜ r ≤ at + 108 ⌝ }
 {
     let scored = put_field(out, at, b"FOUND error=", error as u64);
-    let named = put_field(out, scored, b" column=", column as u64);
-    let parted = put_threshold(out, named, threshold);
+    let parted = put_question(out, scored, b" column=", column, threshold);
     let counted = put_field(out, parted, b" tried=", tried as u64);
     digits::put_bytes(out, counted, b"\n")
 }
@@ -131,18 +155,21 @@ fn put_kept(out: &mut [u8], error: u32, tried: u32) -> usize
     requires { ⌜ longest ≤ length (now out) ⌝ }
     ensures { λ r. ⌜ Put (now (out .entry)) 0 (keptOf error tried) r (now (out .exit)) ⌝ }
 {
-    let scored = put_field(out, 0, b"KEPT error=", error as u64);
-    let counted = put_field(out, scored, b" tried=", tried as u64);
-    digits::put_bytes(out, counted, b"\n")
+    put_line(
+        out,
+        0,
+        b"KEPT error=",
+        error as u64,
+        b" tried=",
+        tried as u64,
+    )
 }
 
 fn put_refused(out: &mut [u8], number: u32, place: usize) -> usize
     requires { ⌜ longest ≤ length (now out) ⌝ }
     ensures { λ r. ⌜ Put (now (out .entry)) 0 (refusedOf number place) r (now (out .exit)) ⌝ }
 {
-    let numbered = put_field(out, 0, b"REFUSED ", number as u64);
-    let placed = put_field(out, numbered, b" place=", place as u64);
-    digits::put_bytes(out, placed, b"\n")
+    put_line(out, 0, b"REFUSED ", number as u64, b" place=", place as u64)
 }
 
 // The answer's listing at the start of `out`, and its length. Nothing is written where there is no room for every listing.

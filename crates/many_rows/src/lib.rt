@@ -19,30 +19,14 @@ use cut_score::Stand;
 use cut_score::Verdict;
 use cut_score::is_same;
 use cut_score::split_of;
+use numbers::wide_byte;
+use numbers::wide_entry;
 use sheet::MOST_LABELS;
 use sheet::MOST_ROWS;
 use sheet::Size;
 use side_scan::SideScan;
 use two_sides::SIDES;
 use two_sides::Two;
-
-fn row_number(entry: u16) -> usize
-    ensures { λ r. ⌜ r ≡ entry ⌝ }
-{
-    entry as usize
-}
-
-fn label_number(code: u8) -> usize
-    ensures { λ r. ⌜ r ≡ code ⌝ }
-{
-    code as usize
-}
-
-fn side_number(side: u8) -> usize
-    ensures { λ r. ⌜ r ≡ side ⌝ }
-{
-    side as usize
-}
 
 fn share_of(side: SideScan) -> Share
     ensures { λ r. ⌜ r ≡ shareOf side ⌝ }
@@ -176,9 +160,9 @@ fn scan_rows(
     let base = column * size.rows;
     let mut i: usize = 0;
     while i < size.rows {
-        let row = row_number(order[base + i]);
-        let label = label_number(codes[row]);
-        let side = side_number(sides[row]);
+        let row = wide_entry(order[base + i]);
+        let label = wide_byte(codes[row]);
+        let side = wide_byte(sides[row]);
         let was = stand[side];
         if !is_passed(values, base, row, was) {
             let cut = score_cut(&own[side], &seen[side], share[side], was, best[side].score);

@@ -2,6 +2,7 @@
 use interval_pruner::Parts;
 use interval_pruner::Tried;
 use interval_pruner::Zeros;
+use numbers::wide_word;
 ghost use mathlib.Core.Path.{_≡_};
 ghost use Prim.Native.Nat.{suc, _*_, _^_, _<_, min};
 ghost use mathlib.Core.Bool.{true};
@@ -9,13 +10,6 @@ ghost use mathlib.Core.List.{[]};
 ghost use Rattle.cuts.specs.Lookups.{Ascending};
 ghost use Rattle.interval_pruner.specs.Column.{columnOf};
 ghost use Rattle.interval_pruner.specs.Pruner.{past, upperFrom, lowerNear, lowerTo, partsOf, Held, Listed};
-
-fn wide(x: u32) -> usize
-    ensures { λ r. ⌜ r ≡ x ⌝ }
-    ensures fits { λ r. ⌜ r < 2 ^ 32 ⌝ }
-{
-    x as usize
-}
 
 // The number after a cut's; past a list of `count` cuts there is none to go to.
 fn after(count: usize, cut: usize) -> usize
@@ -108,7 +102,7 @@ pub fn neighbourhood_pruning(
         ⌜ (Listed (now (cuts .entry)) zeros cut →
         r ≡ partsOf (columnOf (now (cuts .entry)) [] gap small) zeros excess cut first) ⌝ }
 {
-    let distance = wide(excess) + wide(gap);
+    let distance = wide_word(excess) + wide_word(gap);
     Parts {
         upper: upper_from(cuts, zeros, distance, cut, small),
         lower: lower_to(cuts, zeros, distance, cut, first, small),

@@ -1,4 +1,5 @@
 // Reason 7 of the input check: the order list has each row of the sheet once in each column.
+use numbers::wide_entry;
 use sheet::Size;
 ghost use mathlib.Core.Path.{_≡_};
 ghost use Prim.Native.Nat.{ℕ, _+_, _*_, _≤_};
@@ -7,12 +8,6 @@ ghost use lib.ListN.{length, getD};
 ghost use Rattle.basics.specs.Walk.{walk};
 ghost use Rattle.sheet.specs.Check.{sheetOf, badOrder, atIndex};
 ghost use Rattle.sheet.specs.Ready.{Sized, Columned};
-
-fn wide(x: u16) -> usize
-    ensures { λ r. ⌜ r ≡ x ⌝ }
-{
-    x as usize
-}
 
 // The first sorted place of the column whose order entry is not below rows or was met before; rows if there is none. A row's word becomes
 // the column's mark as it is met: no column before this one has that mark, so nothing is cleared between columns.
@@ -24,7 +19,7 @@ fn first_bad_place(size: Size, order: &[u16], column: usize, marks: &mut [u32]) 
     let mark = (column + 1) as u32;
     let mut place: usize = 0;
     while place < size.rows {
-        let row = wide(order[base + place]);
+        let row = wide_entry(order[base + place]);
         if size.rows <= row {
             return place;
         }

@@ -5,6 +5,7 @@ use crate::count::Count;
 use judge::Verdict;
 use judge_rows::Judgement;
 use judge_rows::Wrong;
+use numbers::smaller;
 use sheet::MOST_COLUMNS;
 use sheet::Size;
 use sheet::Terms;
@@ -19,12 +20,6 @@ use tree::Tree;
 // Scratch for the largest sheet: eight words for each row.
 const WORDS: usize = 16384;
 
-fn upto(n: usize, most: usize) -> usize
-    ensures { λ r. ⌜ r ≤ most ⌝ }
-{
-    if n <= most { n } else { most }
-}
-
 // How many cells a sheet has; a sheet that was read is within the limits.
 fn cells_of(rows: usize, columns: usize, most: usize) -> usize
     ensures { λ r. ⌜ r ≤ most ⌝ }
@@ -36,7 +31,7 @@ fn cells_of(rows: usize, columns: usize, most: usize) -> usize
         return 0;
     }
     let cells = rows * columns;
-    upto(cells, most)
+    smaller(cells, most)
 }
 
 fn same_mistakes(wrong: Wrong, side: Side) -> bool {
@@ -100,8 +95,8 @@ fn find(size: Size, terms: Terms, values: &[f64], codes: &[u8]) -> Answer {
     let mut cuts = [0u16; MOST_CELLS];
     let mut counts = [0u16; MOST_COLUMNS];
     let mut scratch = [0u32; WORDS];
-    let cells = upto(values.len(), MOST_CELLS);
-    let columns = upto(size.columns, MOST_COLUMNS);
+    let cells = smaller(values.len(), MOST_CELLS);
+    let columns = smaller(size.columns, MOST_COLUMNS);
     search(
         size,
         terms,
@@ -140,7 +135,7 @@ fn judge_read(head: Head, values: &[f64], codes: &[u8]) -> Count {
         bound: head.bound,
     };
     let cells = cells_of(head.rows, head.columns, values.len());
-    let rows = upto(head.rows, codes.len());
+    let rows = smaller(head.rows, codes.len());
     judge_sheet(size, terms, &values[..cells], &codes[..rows])
 }
 

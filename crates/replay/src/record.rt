@@ -1,16 +1,10 @@
 // A record's numbers and bytes; oracle/recorded/README.md has its layout.
-ghost use mathlib.Core.Path.{_≡_};
 ghost use Rattle.io.specs.Counts.{Counts};
-
-fn wide(x: u8) -> usize
-    ensures { λ r. ⌜ r ≡ x ⌝ }
-{
-    x as usize
-}
+use numbers::wide_byte;
 
 // The lower byte comes first.
 pub fn number(low: u8, high: u8) -> usize {
-    wide(low) + 256 * wide(high)
+    wide_byte(low) + 256 * wide_byte(high)
 }
 
 // Fills the start of `bytes`, where there is room for so many, and answers how many came.

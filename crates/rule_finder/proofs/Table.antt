@@ -26,5 +26,5 @@ use Rattle.rule_finder.specs.Run.{answerTo, runOf}
 use Rattle.rule_finder.specs.Table.{Entry, tableP}
 
 pub table-p : map (λ (e : Entry). listing.listingOf (runOf (e .bytes))) tableP ≡ map (λ (e : Entry). e .text) tableP
-unfolding ofBits toBits lt le eq add div pick walk midpointOf thresholdOf goesLeft within valueOf labelOf rowAt valueAt isCut countOf placeOf placesOf sizeHolds lengthsHold scratchHolds termsHold badValue badLabel met badOrder falls cutsOf same badCuts reason contentOf checkOf place firstFrom endOf soughtFrom feasibleOf column.computes scan.computes precedingPlace cutThreshold markOf sidesAt errorsAt treeAt bestAfter joined afterColumn searchColumns searched answerOf answerAfter searchOf rowsFrom insert sorted prepared.columnOf columnLists.precedes columnLists.orderOf columnLists.isCut columnLists.cutsAlong columnLists.placesOf columnLists.countOf columnLists.padded columnLists.cutsOf prepared.joined prepared.orderList prepared.cutList prepared.countList numberAt marked read.headOf read.startOf read.codeOf read.cellAt read.bitsOf read.valueOf read.valuesOf read.codesOf read.headBad read.outside read.sizeBad read.tooLarge read.rowBad read.further read.termsBad read.valueBad read.codeBad read.firstBad read.fromCodes read.fromValues read.fromTerms read.fromEnd read.fromRows read.fromLarge read.fromSize read.readOf digits.digitOf digits.placesOf digits.decimalOf digits.hexOf listing.field listing.spotOf listing.scoreOf listing.leafOf listing.splitOf listing.sideOf listing.foundOf listing.keptOf listing.refusedOf listing.ruleOf listing.listingOf entry1 entry2 entry3 entry4 answerTo runOf tableP
+unfolding ofBits toBits lt le eq add div pick walk midpointOf thresholdOf goesLeft within valueOf labelOf rowAt valueAt isCut countOf placeOf placesOf sizeHolds lengthsHold scratchHolds termsHold badValue badLabel met badOrder falls cutsOf same badCuts reason contentOf checkOf place firstFrom endOf soughtFrom feasibleOf column.computes scan.computes precedingPlace cutThreshold markOf sidesAt errorsAt treeAt bestAfter joined afterColumn searchColumns searched answerOf answerAfter searchOf rowsFrom insert sorted prepared.columnOf columnLists.precedes columnLists.orderOf columnLists.isCut columnLists.cutsAlong columnLists.placesOf columnLists.countOf columnLists.padded columnLists.cutsOf prepared.joined prepared.orderList prepared.cutList prepared.countList numberAt marked read.headOf read.startOf read.codeOf read.cellAt read.bitsOf read.valueOf read.valuesOf read.codesOf read.headBad read.outside read.sizeBad read.tooLarge read.rowBad read.further read.termsBad read.valueBad read.codeBad read.firstBad read.fromCodes read.fromValues read.fromTerms read.fromEnd read.fromRows read.fromLarge read.fromSize read.readOf digits.digitOf digits.placesOf digits.decimalOf digits.hexOf listing.field listing.spotOf listing.questionOf listing.scoreOf listing.lineOf listing.leafOf listing.splitOf listing.sideOf listing.foundOf listing.keptOf listing.refusedOf listing.ruleOf listing.listingOf entry1 entry2 entry3 entry4 answerTo runOf tableP
 table-p = refl

@@ -4,6 +4,7 @@ ghost use Prim.Native.Nat.{_≤_};
 use digits::HEX_PLACES;
 use libc::STDOUT_FILENO;
 use listing::LONGEST;
+use numbers::smaller;
 use sheet::Size;
 use sheet::Terms;
 
@@ -32,12 +33,6 @@ fn thresholds() {
     show_threshold(b"T4", 5.0e-324, 1.0e-323);
 }
 
-fn upto(n: usize, most: usize) -> usize
-    ensures { λ r. ⌜ r ≤ most ⌝ }
-{
-    if n <= most { n } else { most }
-}
-
 // Where the run of words that hold that number ends, from `first` on.
 fn run_end(words: &[u32], first: usize, number: u32) -> usize
     ensures { λ r. ⌜ first ≤ r ⌝ }
@@ -52,14 +47,17 @@ fn run_end(words: &[u32], first: usize, number: u32) -> usize
     i
 }
 
+fn print_field(word: &[u8], n: u64) {
+    io::write_all(STDOUT_FILENO, word);
+    io::print_decimal(STDOUT_FILENO, n);
+}
+
 fn report(name: &[u8], scratch: &[u32]) {
     let cleared = run_end(scratch, 0, 0);
     let kept = run_end(scratch, cleared, BEFORE) - cleared;
     io::write_all(STDOUT_FILENO, name);
-    io::write_all(STDOUT_FILENO, b": scratch ");
-    io::print_decimal(STDOUT_FILENO, cleared as u64);
-    io::write_all(STDOUT_FILENO, b" cleared, ");
-    io::print_decimal(STDOUT_FILENO, kept as u64);
+    print_field(b": scratch ", cleared as u64);
+    print_field(b" cleared, ", kept as u64);
     io::write_all(STDOUT_FILENO, b" untouched\n");
 }
 
@@ -107,8 +105,8 @@ fn prepare_case(
     order: &mut [u16],
     cuts: &mut [u16],
 ) {
-    let ordered = upto(values.len(), order.len());
-    let cut = upto(values.len(), cuts.len());
+    let ordered = smaller(values.len(), order.len());
+    let cut = smaller(values.len(), cuts.len());
     let mut counts = [0u16; 1];
     prepare::prepare(
         size.rows,
@@ -146,8 +144,8 @@ fn run_case(name: &[u8], labels: usize, terms: Terms, values: &[f64], codes: &[u
 fn first_rows(name: &[u8], rows: usize, coded: usize, labels: usize, terms: Terms) {
     let values = [1.0, 2.0, 3.0, 4.0, 5.0, 6.0];
     let codes: [u8; 6] = [0, 1, 0, 1, 0, 1];
-    let rows = upto(rows, MOST_ROWS);
-    let coded = upto(coded, MOST_ROWS);
+    let rows = smaller(rows, MOST_ROWS);
+    let coded = smaller(coded, MOST_ROWS);
     run_case(name, labels, terms, &values[..rows], &codes[..coded]);
 }
 
@@ -161,11 +159,15 @@ fn four_rows(name: &[u8], support: u32, gap: u32, error: u32, bound: u32) {
     first_rows(name, 4, 4, 2, terms);
 }
 
-// T5 to T9, and a support above the limit.
-fn four_row_cases() {
+// T5 to T7.
+fn gaps_and_bounds() {
     four_rows(b"T5", 1, 0, 2, NO_BOUND);
     four_rows(b"T6", 1, 2, 2, NO_BOUND);
     four_rows(b"T7", 1, 0, 2, 0);
+}
+
+// T8 and T9, and a support above the limit.
+fn supports() {
     four_rows(b"T8", 2, 0, 2, NO_BOUND);
     four_rows(b"T8, starting error 3", 2, 0, 3, NO_BOUND);
     four_rows(b"T9", 3, 0, 2, NO_BOUND);
@@ -234,7 +236,8 @@ fn other_lists() {
 
 fn main() {
     thresholds();
-    four_row_cases();
+    gaps_and_bounds();
+    supports();
     other_sizes();
     other_values();
     other_lists();

@@ -22,6 +22,7 @@ use Rattle.sheet.specs.Sound.{Limited}
 use Rattle.sheet.specs.Check.{cellsOf, between, sizeHolds, lengthsHold, scratchHolds, termsHold, badValue, badLabel, badOrder, met, falls, badCuts, cutsOf, same, atIndex, reason, whole, contentOf, checkOf}
 use Rattle.sheet.specs.Laws.{Lengths, conditionsOf, Condition, First, GivenExactly, AcceptedExactly, TermAbove, ValueOutside, LabelHigh, OrderWrong, ValueFalls, CutsWrong}
 use Rattle.sheet.proofs.Search.{clean-walk, walk-bad, untruth}
+use Rattle.sheet.proofs.Numbered.{None, next, none0}
 use Rattle.sheet.proofs.Index.{column-in, at-column}
 use Rattle.sheet.proofs.MetBefore.{met-yes, met-where}
 use Rattle.sheet.proofs.Lists.{same-refl, same-no}
@@ -231,20 +232,14 @@ module _ (s : Sheet) (t : Terms) (words : ℕ) where
   abbrev C : ℕ → ℕ → Type 0
   C n p = Condition s t words n p
 
-  abbrev None : ℕ → Type 0
-  None k = (m q : ℕ) → m ≤ k → C m q → ⊥
-
   abbrev Fitting : Checked → Type 0
   Fitting Accepted = (n p : ℕ) → C n p → ⊥
   Fitting (Refused n p) = First s t words n p
 
-  next : (k : ℕ) → None k → ((q : ℕ) → C (suc k) q → ⊥) → None (suc k)
-  next k none here m q h x = reach m (suc k) h (λ e. here q (subst (λ n. C n q) e x)) (λ l. none m q (omega arith) x)
-
-  by-whole : (k : ℕ) (holds : Bool) (rest : Checked) → ((q : ℕ) → C (suc k) q → T (not holds)) → (T (not holds) → C (suc k) 0) → None k
-      → (T holds → None (suc k) → Fitting rest) → Fitting (whole (suc k) holds rest)
+  by-whole : (k : ℕ) (holds : Bool) (rest : Checked) → ((q : ℕ) → C (suc k) q → T (not holds)) → (T (not holds) → C (suc k) 0) → None C k
+      → (T holds → None C (suc k) → Fitting rest) → Fitting (whole (suc k) holds rest)
   by-whole k holds rest to from none go =
-      by-test Fitting holds (λ u. go u (next k none (λ q x. T-not holds (to q x) u)))
+      by-test Fitting holds (λ u. go u (next C k none (λ q x. T-not holds (to q x) u)))
       (λ u.
       record {
         here = from u;
@@ -253,7 +248,7 @@ module _ (s : Sheet) (t : Terms) (words : ℕ) where
       })
 
   by-scan : (k places : ℕ) (bad : ℕ → Bool) (rest : Checked) → ((q : ℕ) → C (suc k) q → (q < places) × T (bad q))
-      → ((q : ℕ) → q < places → T (bad q) → C (suc k) q) → None k → (None (suc k) → Fitting rest)
+      → ((q : ℕ) → q < places → T (bad q) → C (suc k) q) → None C k → (None C (suc k) → Fitting rest)
       → Fitting (reason (suc k) places bad rest)
   unfolding reason
   by-scan k places bad rest to from none go =
@@ -265,13 +260,7 @@ module _ (s : Sheet) (t : Terms) (words : ℕ) where
         no-earlier = λ q h x. T-not (bad q) (clean-walk bad places .none q h) (to q x .1);
         no-lower = λ m q h x. none m q (omega arith) x;
       })
-      (λ g. go (next k none (λ q x. let w = to q x in T-not (bad q) (clean-walk bad places .none q (omega (arith, w .0))) (w .1))))
-
-  none0 : None 0
-  none0 m q h x = subst (λ n. C n q) (zero-only m h) x
-    where
-      zero-only : (m : ℕ) → m ≤ 0 → m ≡ 0
-      zero-only m h = omega arith
+      (λ g. go (next C k none (λ q x. let w = to q x in T-not (bad q) (clean-walk bad places .none q (omega (arith, w .0))) (w .1))))
 
   beyond : (m q : ℕ) → 9 < m → C m q → ⊥
   beyond m q h x = subst (λ X. X) (List·getD-eq-default (conditionsOf s t words q) ⊥ {n = m} (omega arith)) x
@@ -279,7 +268,7 @@ module _ (s : Sheet) (t : Terms) (words : ℕ) where
   pub fitting : Fitting (checkOf s t words)
   unfolding checkOf contentOf
   fitting =
-      by-whole 0 (sizeHolds s) (rest2 s t words) (λ q x. size-to s (x .1)) (λ u. (refl, size-from s u)) none0
+      by-whole 0 (sizeHolds s) (rest2 s t words) (λ q x. size-to s (x .1)) (λ u. (refl, size-from s u)) (none0 C (λ q x. x))
       (λ a n1.
       let some : 1 ≤ s .rows = limited s a .rows-some in
       by-whole 1 (lengthsHold s) (rest3 s t words) (λ q x. lengths-to s (x .1)) (λ u. (refl, lengths-from s u)) n1

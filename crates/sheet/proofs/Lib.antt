@@ -1,5 +1,6 @@
 -- Laws of the input check, for every crate to cite.
 pub mod Search
+pub mod Numbered
 pub mod Index
 pub mod MetBefore
 pub mod Values

@@ -6,6 +6,8 @@ ghost use lib.ListN.{length, getD};
 ghost use lib.Ieee.{nan};
 ghost use Rattle.basics.specs.Walk.{walk};
 ghost use Rattle.sheet.specs.Check.{sheetOf, between, sizeHolds, badValue, badLabel, cleared};
+use numbers::wide_byte;
+use numbers::wide_entry;
 
 // The numbers of a sheet; they may hold anything until the check has accepted them.
 pub struct Size {
@@ -60,18 +62,6 @@ pub const VALUE_FALLS: u32 = 8;
 
 pub const CUTS_WRONG: u32 = 9;
 
-fn wide(x: u16) -> usize
-    ensures { λ r. ⌜ r ≡ x ⌝ }
-{
-    x as usize
-}
-
-fn wide8(x: u8) -> usize
-    ensures { λ r. ⌜ r ≡ x ⌝ }
-{
-    x as usize
-}
-
 // The first words become 0.
 pub fn clear(scratch: &mut [u32], words: usize)
     requires { ⌜ words ≤ length (now scratch) ⌝ }
@@ -104,7 +94,7 @@ pub fn first_bad_label(codes: &[u8], labels: usize) -> usize
 {
     let mut i: usize = 0;
     while i < codes.len() {
-        if labels <= wide8(codes[i]) {
+        if labels <= wide_byte(codes[i]) {
             return i;
         }
         i += 1;
@@ -117,7 +107,7 @@ pub fn value_at(values: &[f64], order: &[u16], base: usize, place: usize) -> f64
     requires { ⌜ (base + place < length (now order)) × (base + getD (now order) (base + place) 0 < length (now values)) ⌝ }
     ensures { λ r. ⌜ r ≡ getD (now (values .entry)) (base + getD (now (order .entry)) (base + place) 0) nan ⌝ }
 {
-    let row = wide(order[base + place]);
+    let row = wide_entry(order[base + place]);
     values[base + row]
 }
 

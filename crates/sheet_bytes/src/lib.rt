@@ -15,7 +15,7 @@ use sheet_room::MOST_READ;
 use sheet_room::ROW_FIXED;
 use sheet_room::VALUE_SIZE;
 ghost use mathlib.Core.Path.{_≡_};
-ghost use Prim.Native.Nat.{_+_, _*_, _%_, _/_, _^_, _≤_, _<_};
+ghost use Prim.Native.Nat.{_^_, _≤_, _<_};
 ghost use lib.ListN.{length};
 ghost use lib.Seq.{sets};
 ghost use lib.Ieee.{binary64, ofBits};

@@ -1,6 +1,6 @@
 // The input check on small sheets: each reason at its first and its last place, two reasons at once, and every word of scratch.
-ghost use Prim.Native.Nat.{_≤_};
 use libc::STDOUT_FILENO;
+use numbers::smaller;
 use sheet::Checked;
 use sheet::Size;
 use sheet::Terms;
@@ -63,12 +63,6 @@ fn all_lent() -> Lent {
     }
 }
 
-fn upto(n: usize, most: usize) -> usize
-    ensures { λ r. ⌜ r ≤ most ⌝ }
-{
-    if n <= most { n } else { most }
-}
-
 // Where the run of words that hold that number ends, from `first` on.
 fn run_end(words: &[u32], first: usize, number: u32) -> usize {
     let mut i = first;
@@ -81,18 +75,37 @@ fn run_end(words: &[u32], first: usize, number: u32) -> usize {
     i
 }
 
+fn print_field(word: &[u8], n: u64) {
+    io::write_all(STDOUT_FILENO, word);
+    io::print_decimal(STDOUT_FILENO, n);
+}
+
 fn say(answer: Checked) {
     match answer {
         Checked::Accepted => {
             io::write_all(STDOUT_FILENO, b"accepted");
         }
         Checked::Refused(number, place) => {
-            io::write_all(STDOUT_FILENO, b"refused ");
-            io::print_decimal(STDOUT_FILENO, number as u64);
-            io::write_all(STDOUT_FILENO, b" place=");
-            io::print_decimal(STDOUT_FILENO, place as u64);
+            print_field(b"refused ", number as u64);
+            print_field(b" place=", place as u64);
         }
     }
+}
+
+// Every word of scratch was 7 before: up to which word it is 0, and from there up to which it is 7 still. That is the last one, 40.
+fn say_scratch(scratch: &[u32]) {
+    let zeros = run_end(scratch, 0, 0);
+    let kept = run_end(scratch, zeros, 7);
+    print_field(b", 0 to ", zeros as u64);
+    print_field(b", 7 to ", kept as u64);
+    io::write_all(STDOUT_FILENO, b"\n");
+}
+
+fn say_line(name: &[u8], answer: Checked, scratch: &[u32]) {
+    io::write_all(STDOUT_FILENO, name);
+    io::write_all(STDOUT_FILENO, b": ");
+    say(answer);
+    say_scratch(scratch);
 }
 
 // The check of what is lent of each list.
@@ -107,12 +120,12 @@ fn checked(
     lent: Lent,
     scratch: &mut [u32],
 ) -> Checked {
-    let v = upto(lent.values, values.len());
-    let r = upto(lent.codes, codes.len());
-    let o = upto(lent.order, order.len());
-    let u = upto(lent.cuts, cuts.len());
-    let n = upto(lent.counts, counts.len());
-    let w = upto(lent.words, scratch.len());
+    let v = smaller(lent.values, values.len());
+    let r = smaller(lent.codes, codes.len());
+    let o = smaller(lent.order, order.len());
+    let u = smaller(lent.cuts, cuts.len());
+    let n = smaller(lent.counts, counts.len());
+    let w = smaller(lent.words, scratch.len());
     sheet_check::check(
         size,
         terms,
@@ -125,8 +138,7 @@ fn checked(
     )
 }
 
-// Every word of scratch is 7 before. The line says what was answered, up to which word scratch is 0, and from there up to which it is 7 still: that is
-// the last one, 40.
+// The line says what was answered, and what became of scratch.
 fn show(name: &[u8], size: Size, terms: Terms, lists: Lists, lent: Lent) {
     let values = lists.values;
     let codes = lists.codes;
@@ -145,15 +157,7 @@ fn show(name: &[u8], size: Size, terms: Terms, lists: Lists, lent: Lent) {
         lent,
         &mut scratch,
     );
-    io::write_all(STDOUT_FILENO, name);
-    io::write_all(STDOUT_FILENO, b": ");
-    say(answer);
-    let zeros = run_end(&scratch, 0, 0);
-    io::write_all(STDOUT_FILENO, b", 0 to ");
-    io::print_decimal(STDOUT_FILENO, zeros as u64);
-    io::write_all(STDOUT_FILENO, b", 7 to ");
-    io::print_decimal(STDOUT_FILENO, run_end(&scratch, zeros, 7) as u64);
-    io::write_all(STDOUT_FILENO, b"\n");
+    say_line(name, answer, &scratch);
 }
 
 fn show_lists(name: &[u8], lists: Lists) {
@@ -241,15 +245,22 @@ fn of_cut(name: &[u8], index: usize, place: u16) {
     show_lists(name, lists);
 }
 
+fn constant_column() {
+    let mut lists = good_lists();
+    lists.values[0] = 2.0;
+    lists.values[3] = 2.0;
+    lists.counts[0] = 0;
+    show_lists(b"a constant column", lists);
+}
+
 fn accepted() {
     show_lists(b"good", good_lists());
-    let mut constant = good_lists();
-    constant.values[0] = 2.0;
-    constant.values[3] = 2.0;
-    constant.counts[0] = 0;
-    show_lists(b"a constant column", constant);
+    constant_column();
     of_value(b"the largest value", 3, 1000000000000.0);
     of_value(b"the lowest value", 7, -1000000000000.0);
+}
+
+fn still_accepted() {
     of_order(b"zero before minus zero", 5, 2, 1);
     of_cut(b"an entry past the count", 2, 9);
     of_terms(b"the largest terms", 4096, 1000000, 1000000, 1000000);
@@ -305,49 +316,67 @@ fn small() {
     two_rows(b"values 1, 2 with no cut", 0, 1, 0);
 }
 
-// Reason 1, and limits that are still inside.
+// Reason 1.
 fn sizes() {
     of_size(b"no rows", 0, 2, 2);
     of_size(b"4097 rows", 4097, 2, 2);
     of_size(b"no columns", 4, 0, 2);
     of_size(b"17 columns", 4, 17, 2);
+}
+
+// The number of labels, and limits that are still inside.
+fn labels() {
     of_size(b"no labels", 4, 2, 0);
     of_size(b"33 labels", 4, 2, 33);
     of_size(b"the largest size, other lengths", 4096, 16, 32);
 }
 
 // Reason 2.
-fn lengths() {
+fn row_lengths() {
     of_lengths(b"7 values", 7, 4, 8, 8, 2);
     of_lengths(b"9 values", 9, 4, 8, 8, 2);
     of_lengths(b"3 codes", 8, 3, 8, 8, 2);
     of_lengths(b"5 codes", 8, 5, 8, 8, 2);
+}
+
+fn order_lengths() {
     of_lengths(b"7 entries of order", 8, 4, 7, 8, 2);
     of_lengths(b"9 entries of order", 8, 4, 9, 8, 2);
+}
+
+fn cut_lengths() {
     of_lengths(b"7 cuts", 8, 4, 8, 7, 2);
     of_lengths(b"9 cuts", 8, 4, 8, 9, 2);
     of_lengths(b"1 count", 8, 4, 8, 8, 1);
     of_lengths(b"3 counts", 8, 4, 8, 8, 3);
 }
 
-// Reasons 3 and 4.
-fn limits() {
+// Reason 3.
+fn words() {
     of_words(b"0 words", 0);
     of_words(b"31 words", 31);
     of_words(b"32 words", 32);
+}
+
+// Reason 4.
+fn terms() {
     of_terms(b"support 4097", 4097, 0, 4, 1000000);
     of_terms(b"gap 1000001", 1, 1000001, 4, 1000000);
     of_terms(b"error 1000001", 1, 0, 1000001, 1000000);
     of_terms(b"bound 4294967295", 1, 0, 4, 4294967295);
 }
 
-// Reasons 5 and 6.
+// Reason 5.
 fn values() {
     let huge = 1.0e300 * 1.0e300;
     of_value(b"the next double first", 0, 1000000000000.0001);
     of_value(b"the next double last, negative", 7, -1000000000000.0001);
     of_value(b"an infinity", 4, huge);
     of_value(b"no number", 3, huge - huge);
+}
+
+// Reason 6.
+fn codes() {
     of_code(b"the first label 2", 0, 2);
     of_code(b"the last label 255", 3, 255);
 }
@@ -369,11 +398,14 @@ fn falls() {
 }
 
 // Reason 9.
-fn cuts() {
+fn counts() {
     of_count(b"a missing cut", 0, 1);
     of_count(b"a missing cut in the last column", 1, 1);
     of_count(b"one cut more", 0, 3);
     of_count(b"a count of 65535", 1, 65535);
+}
+
+fn cuts() {
     of_cut(b"a cut between equal values", 0, 2);
     of_cut(b"a cut between the zeros", 5, 2);
     of_cut(b"the same cut twice", 5, 1);
@@ -404,11 +436,14 @@ fn shape(name: &[u8], rows: usize, cuts: usize, words: usize) {
     show(name, size, terms, lists, lent);
 }
 
-fn together() {
+fn shapes() {
     shape(b"1 and 2", 4097, 7, 31);
     shape(b"2 and 3", 4, 7, 31);
     shape(b"3 and 4", 4, 8, 31);
     shape(b"4 and 5", 4, 8, 32);
+}
+
+fn contents() {
     both(b"5 and 6", 1000000000000.0001, 2, 3, 0);
     both(b"6 and 7", -5.0, 2, 3, 0);
     both(b"7 and 8", -5.0, 1, 3, 0);
@@ -417,13 +452,21 @@ fn together() {
 
 fn main() {
     accepted();
+    still_accepted();
     small();
     sizes();
-    lengths();
-    limits();
+    labels();
+    row_lengths();
+    order_lengths();
+    cut_lengths();
+    words();
+    terms();
     values();
+    codes();
     order();
     falls();
+    counts();
     cuts();
-    together();
+    shapes();
+    contents();
 }

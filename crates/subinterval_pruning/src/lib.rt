@@ -1,19 +1,13 @@
 // Step 1 of one column's search (interval_pruner.rs): whether an interval can be dropped for what is known of the cuts beside it.
 use interval_pruner::Bound;
 use interval_pruner::Tried;
+use numbers::wide_word;
 ghost use mathlib.Core.Path.{_≡_};
 ghost use Prim.Native.Nat.{ℕ, _^_, _<_};
 ghost use mathlib.Core.Bool.{Bool};
 ghost use mathlib.Core.List.{List};
 ghost use Rattle.interval_pruner.specs.Column.{columnOf};
 ghost use Rattle.interval_pruner.specs.Pruner.{heldLeft, heldRight, hopeless};
-
-fn wide(x: u32) -> usize
-    ensures { λ r. ⌜ r ≡ x ⌝ }
-    ensures fits { λ r. ⌜ r < 2 ^ 32 ⌝ }
-{
-    x as usize
-}
 
 fn held_left(table: &[u32], cut: Tried) -> usize
     ensures { λ r.
@@ -46,8 +40,8 @@ pub fn subinterval_pruning(table: &[u32], bound: Bound, gap: u32, best: u32, sma
     if small {
         let left = bound.left;
         let right = bound.right;
-        let sum = held_left(table, left) + held_right(table, right) + wide(gap);
-        return wide(best) <= sum;
+        let sum = held_left(table, left) + held_right(table, right) + wide_word(gap);
+        return wide_word(best) <= sum;
     }
     false
 }

@@ -6,6 +6,7 @@ ghost use lib.ListN.{length};
 ghost use Rattle.basics.specs.Choice.{pick};
 ghost use Rattle.sheet.specs.Limits.{mostRows};
 ghost use Rattle.two_sides.specs.Lists.{Numbered, ReadyRows, partedOf};
+use numbers::wide_byte;
 use sheet::MOST_LABELS;
 use sheet::MOST_ROWS;
 use side_scan::SideScan;
@@ -25,12 +26,6 @@ pub struct Parted {
     pub size: u32,
     pub other: [u16; MOST_LABELS],
     pub rest: u32,
-}
-
-fn label_number(code: u8) -> usize
-    ensures { λ r. ⌜ r ≡ code ⌝ }
-{
-    code as usize
 }
 
 // The number of the side that a mark sends a row to.
@@ -71,7 +66,7 @@ pub fn part_rows(rows: usize, codes: &[u8], marks: &[u32], sides: &mut [u8; MOST
     let mut rest: u32 = 0;
     let mut row: usize = 0;
     while row < rows {
-        let label = label_number(codes[row]);
+        let label = wide_byte(codes[row]);
         let side = marked_side(marks[row]);
         counts[side][label] = counts[side][label] + 1;
         sides[row] = side_byte(side);

@@ -9,14 +9,14 @@ use Rattle.column_turns.proofs.places_of.Tie as tie
 mul-base : tie.Need-mul-base
 mul-base c = search needs
 
-mul-wide : tie.Need-mul-wide
-mul-wide c = search needs
+mul-wide-entry : tie.Need-mul-wide-entry
+mul-wide-entry c = search needs
 
-shared-slice-read-wide : tie.Need-shared-slice-read-wide
-shared-slice-read-wide c = search needs
+shared-slice-read-wide-entry : tie.Need-shared-slice-read-wide-entry
+shared-slice-read-wide-entry c = search needs
 
-wide-requires : tie.Need-wide-requires
-wide-requires c κs = search needs
+wide-entry-requires : tie.Need-wide-entry-requires
+wide-entry-requires c κs = search needs
 
 add-end : tie.Need-add-end
 add-end c = search needs
@@ -37,17 +37,17 @@ returns : tie.Need-returns
 returns c values codes order =
     let start = c .before .before .before .before .before .before in
     let a = start .args in
-    places-part (a .size) values codes order (a .cuts .now) (a .counts .now) (a .column) (a .column * a .size .rows + c .before .wide .result) (start .pre)
-    (ap (λ (n : ℕ). a .column * a .size .rows + n) (c .before .wide .ensures))
+    places-part (a .size) values codes order (a .cuts .now) (a .counts .now) (a .column) (a .column * a .size .rows + c .before .wide-entry .result) (start .pre)
+    (ap (λ (n : ℕ). a .column * a .size .rows + n) (c .before .wide-entry .ensures .0))
 
 pub places-of-spec : {M : Type 1} → statement M
 places-of-spec =
     tie.close
     (tie.spec
     mul-base
-    mul-wide
-    shared-slice-read-wide
-    wide-requires
+    mul-wide-entry
+    shared-slice-read-wide-entry
+    wide-entry-requires
     add-end
     mul-result
     sub-result

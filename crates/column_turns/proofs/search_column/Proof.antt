@@ -22,8 +22,8 @@ places-of-requires c κs =
     let a = start .args in
     placed-in (a .size) (a .values .now) (a .codes .now) (a .order .now) (a .cuts .now) (a .counts .now) (a .column) (start .pre .whole) (start .pre .here)
 
-wide-support-requires : tie.Need-wide-support-requires
-wide-support-requires c κs = search needs
+wide-word-requires : tie.Need-wide-word-requires
+wide-word-requires c κs = search needs
 
 support-feasible-splits-requires : tie.Need-support-feasible-splits-requires
 support-feasible-splits-requires c κs = search needs
@@ -38,7 +38,7 @@ returns c =
     let places = c .before .before .before .before .places-of .ensures (a .values .now) (a .codes .now) (a .order .now) in
     let f : run .result ≡ feasibleAt s (a .terms) (a .column) =
     run .ensures .1 (subst Ascending (sym places) (places-ascend s (pre .whole) (a .column) (pre .here)))
-    ∙ (λ k. feasibleOf (places k) (a .size .rows) (c .before .before .before .wide-support .ensures k)) in (
+    ∙ (λ k. feasibleOf (places k) (a .size .rows) (c .before .before .before .wide-word .ensures .0 k)) in (
       column-none s (a .terms) (a .column) (a .standing) (omega (arith, ap (λ (z : Run). z .first) f, ap (λ (z : Run). z .end) f, c .if1 .taken)),
       record { size = refl; rest = refl; table-is = refl; ring-is = refl },
     )
@@ -56,7 +56,7 @@ run-column-requires c κs =
     let places = c .before .before .before .before .before .before .places-of .ensures (a .values .now) (a .codes .now) (a .order .now) in
     let f : run .result ≡ feasibleAt s (a .terms) (a .column) =
     run .ensures .1 (subst Ascending (sym places) (places-ascend s (pre .whole) (a .column) (pre .here)))
-    ∙ (λ k. feasibleOf (places k) (a .size .rows) (c .before .before .before .before .before .wide-support .ensures k)) in
+    ∙ (λ k. feasibleOf (places k) (a .size .rows) (c .before .before .before .before .before .wide-word .ensures .0 k)) in
     record {
       begun =
           record {
@@ -83,7 +83,7 @@ returns-2 c =
     let places = c .before .before .before .before .before .before .before .before .before .places-of .ensures (a .values .now) (a .codes .now) (a .order .now) in
     let f : run .result ≡ feasibleAt s (a .terms) (a .column) =
     run .ensures .1 (subst Ascending (sym places) (places-ascend s (pre .whole) (a .column) (pre .here)))
-    ∙ (λ k. feasibleOf (places k) (a .size .rows) (c .before .before .before .before .before .before .before .before .wide-support .ensures k)) in
+    ∙ (λ k. feasibleOf (places k) (a .size .rows) (c .before .before .before .before .before .before .before .before .wide-word .ensures .0 k)) in
     let call = c .before .before .run-column in (
       call .ensures .0
           ∙ (λ k. standingAfter s (a .terms .support) (a .column) (a .standing)
@@ -97,7 +97,7 @@ search-column-spec =
     tie.close
     (tie.spec
     places-of-requires
-    wide-support-requires
+    wide-word-requires
     support-feasible-splits-requires
     returns
     sub-run-column

@@ -13,20 +13,20 @@ returns c =
     let a = c .before .before .before .args in
     past-columns (a .column) (a .size .columns) (a .cut) _ (c .if1 .taken)
 
-mul-wide : tie.Need-mul-wide
-mul-wide c = search needs
+mul-wide-entry : tie.Need-mul-wide-entry
+mul-wide-entry c = search needs
 
-shared-slice-read-wide : tie.Need-shared-slice-read-wide
-shared-slice-read-wide c = search needs
+shared-slice-read-wide-entry : tie.Need-shared-slice-read-wide-entry
+shared-slice-read-wide-entry c = search needs
 
-wide-requires : tie.Need-wide-requires
-wide-requires c κs = search needs
+wide-entry-requires : tie.Need-wide-entry-requires
+wide-entry-requires c κs = search needs
 
 returns-2 : tie.Need-returns-2
 returns-2 c =
     let a = c .before .before .before .before .before .args in
-    ap (λ (n : ℕ). ltb (a .cut) n) (c .wide .ensures)
+    ap (λ (n : ℕ). ltb (a .cut) n) (c .wide-entry .ensures .0)
     ∙ within-columns (a .column) (a .size .columns) (a .cut) _ (omega (arith, c .before .before .if1 .left))
 
 pub is-listed-spec : {M : Type 1} → statement M
-is-listed-spec = tie.close (tie.spec returns mul-wide shared-slice-read-wide wide-requires returns-2)
+is-listed-spec = tie.close (tie.spec returns mul-wide-entry shared-slice-read-wide-entry wide-entry-requires returns-2)

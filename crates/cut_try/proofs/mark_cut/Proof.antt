@@ -13,17 +13,17 @@ use Rattle.cut_try.proofs.mark_cut.Tie as tie
 mul-base : tie.Need-mul-base
 mul-base c = search needs
 
-add-wide : tie.Need-add-wide
-add-wide c = search needs
+add-wide-entry : tie.Need-add-wide-entry
+add-wide-entry c = search needs
 
-mul-wide : tie.Need-mul-wide
-mul-wide c = search needs
+mul-wide-entry : tie.Need-mul-wide-entry
+mul-wide-entry c = search needs
 
-shared-slice-read-wide : tie.Need-shared-slice-read-wide
-shared-slice-read-wide c = search needs
+shared-slice-read-wide-entry : tie.Need-shared-slice-read-wide-entry
+shared-slice-read-wide-entry c = search needs
 
-wide-requires : tie.Need-wide-requires
-wide-requires c κs = search needs
+wide-entry-requires : tie.Need-wide-entry-requires
+wide-entry-requires c κs = search needs
 
 mul-from : tie.Need-mul-from
 mul-from c = search needs
@@ -59,7 +59,7 @@ returns c =
     let marks : List ℕ = call .last .1 .1 .1 .1 .0 in
     let place : ℕ = getD (a .cuts .now) (a .column * a .size .rows + a .cut) 0 in
     let marked : MarkedTo (a .size) (a .order .now) (a .column) place marks (a .size .rows) =
-    subst (λ (n : ℕ). MarkedTo (a .size) (a .order .now) (a .column) n marks (a .size .rows)) (c .before .before .before .before .wide .ensures) (call .ensures .1) in (
+    subst (λ (n : ℕ). MarkedTo (a .size) (a .order .now) (a .column) n marks (a .size .rows)) (c .before .before .before .before .wide-entry .ensures .0) (call .ensures .1) in (
       marks-put (a .size .rows) xs marks (start .pre .enough) (call .ensures .0),
       subst (λ (m : List ℕ). MarkedTo (a .size) (a .order .now) (a .column) place m (a .size .rows))
           (sym (marks-there (a .size .rows) xs marks (start .pre .enough) (call .ensures .0))) marked,
@@ -70,10 +70,10 @@ mark-cut-spec =
     tie.close
     (tie.spec
     mul-base
-    add-wide
-    mul-wide
-    shared-slice-read-wide
-    wide-requires
+    add-wide-entry
+    mul-wide-entry
+    shared-slice-read-wide-entry
+    wide-entry-requires
     mul-from
     mul-to
     mul-mark-sides

@@ -23,17 +23,17 @@ mul-base c = search needs
 loop-holds : tie.Need-loop-holds Inv-loop μ-loop
 loop-holds c = (refl, search needs, refl, λ left agree i h. absurd (omega arith))
 
-add-wide : tie.Need-add-wide Inv-loop μ-loop
-add-wide c = search needs
+add-wide-entry : tie.Need-add-wide-entry Inv-loop μ-loop
+add-wide-entry c = search needs
 
-mul-wide : tie.Need-mul-wide Inv-loop μ-loop
-mul-wide c = search needs
+mul-wide-entry : tie.Need-mul-wide-entry Inv-loop μ-loop
+mul-wide-entry c = search needs
 
-shared-slice-read-wide : tie.Need-shared-slice-read-wide Inv-loop μ-loop
-shared-slice-read-wide c = search needs
+shared-slice-read-wide-entry : tie.Need-shared-slice-read-wide-entry Inv-loop μ-loop
+shared-slice-read-wide-entry c = search needs
 
-wide-requires : tie.Need-wide-requires Inv-loop μ-loop
-wide-requires c κs = search needs
+wide-entry-requires : tie.Need-wide-entry-requires Inv-loop μ-loop
+wide-entry-requires c κs = search needs
 
 side-mark-requires : tie.Need-side-mark-requires Inv-loop μ-loop
 side-mark-requires c κs = search needs
@@ -42,13 +42,13 @@ mul-marks : tie.Need-mul-marks Inv-loop μ-loop
 mul-marks c =
     let a = c .before .before .before .before .before .before .before .before .before .args in
     let pre = c .before .before .before .before .before .before .before .before .before .pre in
-    record { fits = omega (arith, c .before .wide .ensures, pre .in-rows (c .before .before .before .before .before .loop .i) (omega arith), pre .rows-most) }
+    record { fits = omega (arith, c .before .wide-entry .ensures .0, pre .in-rows (c .before .before .before .before .before .loop .i) (omega arith), pre .rows-most) }
 
 slice-write-marks : tie.Need-slice-write-marks Inv-loop μ-loop
 slice-write-marks c =
     let pre = c .before .before .before .before .before .before .before .before .before .pre in
     let l = c .before .before .before .before .before .loop in
-    omega (arith, c .before .wide .ensures, pre .in-rows (l .i) (omega arith), pre .marked, l .inv .2)
+    omega (arith, c .before .wide-entry .ensures .0, pre .in-rows (l .i) (omega arith), pre .marked, l .inv .2)
 
 add-i : tie.Need-add-i Inv-loop μ-loop
 add-i c = search needs
@@ -68,7 +68,7 @@ loop-again c =
       omega arith,
       simp length-set (l .inv .2),
       subst (λ (m : List ℕ). MarkedTo (a .size) (a .order .now) (a .column) (a .place) m (l .i + 1))
-          (λ t. set (l .marks) (sym (c .before .wide .ensures) t) (sym (c .side-mark .ensures) t)) next,
+          (λ t. set (l .marks) (sym (c .before .wide-entry .ensures .0) t) (sym (c .side-mark .ensures) t)) next,
     )
 
 same-length : tie.Need-same-length Inv-loop μ-loop
@@ -89,10 +89,10 @@ mark-sides-spec =
     μ-loop
     mul-base
     loop-holds
-    add-wide
-    mul-wide
-    shared-slice-read-wide
-    wide-requires
+    add-wide-entry
+    mul-wide-entry
+    shared-slice-read-wide-entry
+    wide-entry-requires
     side-mark-requires
     mul-marks
     slice-write-marks

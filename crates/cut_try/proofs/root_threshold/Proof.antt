@@ -16,17 +16,17 @@ mul-base c = search needs
 preceding-place-requires : tie.Need-preceding-place-requires
 preceding-place-requires c κs = search needs
 
-add-wide : tie.Need-add-wide
-add-wide c = search needs
+add-wide-entry : tie.Need-add-wide-entry
+add-wide-entry c = search needs
 
-mul-wide : tie.Need-mul-wide
-mul-wide c = search needs
+mul-wide-entry : tie.Need-mul-wide-entry
+mul-wide-entry c = search needs
 
-shared-slice-read-wide : tie.Need-shared-slice-read-wide
-shared-slice-read-wide c = search needs
+shared-slice-read-wide-entry : tie.Need-shared-slice-read-wide-entry
+shared-slice-read-wide-entry c = search needs
 
-wide-requires : tie.Need-wide-requires
-wide-requires c κs = search needs
+wide-entry-requires : tie.Need-wide-entry-requires
+wide-entry-requires c κs = search needs
 
 value-at-requires : tie.Need-value-at-requires
 value-at-requires c κs =
@@ -40,8 +40,8 @@ value-at-requires-2 : tie.Need-value-at-requires-2
 value-at-requires-2 c κs =
     let start = c .before .before .before .before .before .before .before .before in
     let a = start .args in
-    read-place (a .size) (a .values .now) (a .order .now) (a .cuts .now) (a .column) (a .cut) (c .before .wide .result) (start .pre)
-    (omega (arith, c .before .wide .ensures, start .pre .placed (a .cut) (omega arith)))
+    read-place (a .size) (a .values .now) (a .order .now) (a .cuts .now) (a .column) (a .cut) (c .before .wide-entry .result) (start .pre)
+    (omega (arith, c .before .wide-entry .ensures .0, start .pre .placed (a .cut) (omega arith)))
 
 threshold-between-requires : tie.Need-threshold-between-requires
 threshold-between-requires c κs = search needs
@@ -52,7 +52,7 @@ returns c codes counts =
     let a = start .args in
     let value : ℕ → Float = sorted (a .values .now) (a .order .now) (a .column * a .size .rows) in
     let lower = c .before .before .value-at .ensures ∙ ap value (c .before .before .before .before .before .preceding-place .ensures) in
-    let upper = c .before .value-at2 .ensures ∙ ap value (c .before .before .before .wide .ensures) in
+    let upper = c .before .value-at2 .ensures ∙ ap value (c .before .before .before .wide-entry .ensures .0) in
     c .threshold-between .ensures ∙ (λ t. thresholdOf (lower t) (upper t))
     ∙ threshold-is (a .size) (a .values .now) codes (a .order .now) (a .cuts .now) counts (a .column) (a .cut)
 
@@ -62,10 +62,10 @@ root-threshold-spec =
     (tie.spec
     mul-base
     preceding-place-requires
-    add-wide
-    mul-wide
-    shared-slice-read-wide
-    wide-requires
+    add-wide-entry
+    mul-wide-entry
+    shared-slice-read-wide-entry
+    wide-entry-requires
     value-at-requires
     value-at-requires-2
     threshold-between-requires

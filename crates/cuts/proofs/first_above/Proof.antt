@@ -14,9 +14,6 @@ use Rattle.cuts.specs.Lookups.{place, Ascending, above}
 use Rattle.cuts.proofs.Lookups.{ascending-le}
 use Rattle.cuts.proofs.first_above.Statement.{statement}
 use Rattle.cuts.proofs.first_above.Tie as tie
-use Rattle.cuts.proofs.first_above.Reads as reads
-use Rattle.cuts.proofs.first_above.Lts as lts
-use Rattle.cuts.proofs.wide.Reads as wide-reads
 
 record Bracket (places : List ℕ) (low high value from to : ℕ) : Type 0 where
   left : low ≤ from
@@ -73,14 +70,14 @@ sub-middle c = search needs
 add-middle : tie.Need-add-middle Inv-loop μ-loop
 add-middle c = search needs
 
-mul-wide : tie.Need-mul-wide Inv-loop μ-loop
-mul-wide c = search needs
+mul-wide-entry : tie.Need-mul-wide-entry Inv-loop μ-loop
+mul-wide-entry c = search needs
 
-shared-slice-read-wide : tie.Need-shared-slice-read-wide Inv-loop μ-loop
-shared-slice-read-wide c = search needs
+shared-slice-read-wide-entry : tie.Need-shared-slice-read-wide-entry Inv-loop μ-loop
+shared-slice-read-wide-entry c = search needs
 
-wide-requires : tie.Need-wide-requires Inv-loop μ-loop
-wide-requires c κs = search needs
+wide-entry-requires : tie.Need-wide-entry-requires Inv-loop μ-loop
+wide-entry-requires c κs = search needs
 
 loop-less : tie.Need-loop-less Inv-loop μ-loop
 loop-less c = search needs
@@ -89,7 +86,7 @@ loop-again : tie.Need-loop-again Inv-loop μ-loop
 unfolding place
 loop-again c =
     let p = c .before .before .before .before in
-    down (p .before .before .pre) (p .loop .inv) _ (omega arith) (omega arith) (omega (arith, c .before .wide .ensures, c .if1 .taken))
+    down (p .before .before .pre) (p .loop .inv) _ (omega arith) (omega arith) (omega (arith, c .before .wide-entry .ensures, c .if1 .taken))
 
 add-from : tie.Need-add-from Inv-loop μ-loop
 add-from c = search needs
@@ -101,7 +98,7 @@ loop-again-2 : tie.Need-loop-again-2 Inv-loop μ-loop
 unfolding place
 loop-again-2 c =
     let p = c .before .before .before .before in
-    up (p .before .before .pre) (p .loop .inv) _ (omega arith) (omega arith) (omega (arith, c .before .wide .ensures, c .if1 .left))
+    up (p .before .before .pre) (p .loop .inv) _ (omega arith) (omega arith) (omega (arith, c .before .wide-entry .ensures, c .if1 .left))
 
 returns : tie.Need-returns Inv-loop μ-loop
 returns c =
@@ -120,9 +117,9 @@ first-above-spec =
     loop-holds
     sub-middle
     add-middle
-    mul-wide
-    shared-slice-read-wide
-    wide-requires
+    mul-wide-entry
+    shared-slice-read-wide-entry
+    wide-entry-requires
     loop-less
     loop-again
     add-from

@@ -7,14 +7,14 @@ use Rattle.cuts.specs.Lookups.{place}
 use Rattle.cuts.proofs.place_at.Statement.{statement}
 use Rattle.cuts.proofs.place_at.Tie as tie
 
-mul-wide : tie.Need-mul-wide
-mul-wide c = search needs
+mul-wide-entry : tie.Need-mul-wide-entry
+mul-wide-entry c = search needs
 
-shared-slice-read-wide : tie.Need-shared-slice-read-wide
-shared-slice-read-wide c = search needs
+shared-slice-read-wide-entry : tie.Need-shared-slice-read-wide-entry
+shared-slice-read-wide-entry c = search needs
 
-wide-requires : tie.Need-wide-requires
-wide-requires c κs = search needs
+wide-entry-requires : tie.Need-wide-entry-requires
+wide-entry-requires c κs = search needs
 
 returns : tie.Need-returns
 unfolding place
@@ -28,4 +28,4 @@ returns-2 c =
 
 pub place-at-spec : {M : Type 1} → statement M
 place-at-spec =
-    tie.close (tie.spec mul-wide shared-slice-read-wide wide-requires returns returns-2)
+    tie.close (tie.spec mul-wide-entry shared-slice-read-wide-entry wide-entry-requires returns returns-2)

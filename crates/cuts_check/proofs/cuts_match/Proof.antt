@@ -47,9 +47,9 @@ here f = f .value-at2 .ensures ∙ as-value (sheet (start f)) (start f .args .co
 before : (f : Read) → f .before .value-at .result ≡ valueAt (sheet (start f)) (start f .args .column) (head f .loop .i - 1)
 before f = f .before .value-at .ensures ∙ as-value (sheet (start f)) (start f .args .column) (head f .loop .i - 1)
 
-counted : (h : tie.At-loop Inv-loop μ-loop) → h .before .wide .result ≡ countOf (sheet (first h)) (first h .args .column)
+counted : (h : tie.At-loop Inv-loop μ-loop) → h .before .wide-entry .result ≡ countOf (sheet (first h)) (first h .args .column)
 unfolding countOf
-counted h = h .before .wide .ensures
+counted h = h .before .wide-entry .ensures .0
 
 -- whether the cut is listed, as the definitions name it
 as-listed : (s : Sheet) (c count found i : ℕ) → count ≡ countOf s c
@@ -58,12 +58,12 @@ unfolding placeOf
 as-listed s c count found i e = ap (λ (n : ℕ). ltb found n && eqb (placeOf s c found) i) e
 
 listed : (f : Read)
-    → (ltb (head f .loop .found) (head f .before .wide .result)
+    → (ltb (head f .loop .found) (head f .before .wide-entry .result)
     && eqb (getD (start f .args .cuts .now) (start f .args .column * start f .args .size .rows + head f .loop .found) 0) (head f .loop .i))
     ≡ (ltb (head f .loop .found) (countOf (sheet (start f)) (start f .args .column))
     && eqb (placeOf (sheet (start f)) (start f .args .column) (head f .loop .found)) (head f .loop .i))
 listed f =
-    as-listed (sheet (start f)) (start f .args .column) (head f .before .wide .result) (head f .loop .found) (head f .loop .i)
+    as-listed (sheet (start f)) (start f .args .column) (head f .before .wide-entry .result) (head f .loop .found) (head f .loop .i)
     (counted (head f))
 
 inside : (k : tie.Start Inv-loop μ-loop) (n : ℕ) → n ≡ k .args .size .columns * k .args .size .rows → Room (k .args .size .rows) (k .args .column) n
@@ -72,14 +72,14 @@ inside k n e = room (record { sized = k .pre .0 .listed .sized; column-in = k .p
 mul-base : tie.Need-mul-base Inv-loop μ-loop
 mul-base c = let k = c .before .before .before .before .before in omega (arith, inside k (length (k .args .cuts .now)) (k .pre .0 .cuts-all))
 
-mul-wide : tie.Need-mul-wide Inv-loop μ-loop
-mul-wide c = let k = c .before .before .before .before .before in omega (arith, k .pre .1, k .pre .0 .listed .sized .columns-most)
+mul-wide-entry : tie.Need-mul-wide-entry Inv-loop μ-loop
+mul-wide-entry c = let k = c .before .before .before .before .before in omega (arith, k .pre .1, k .pre .0 .listed .sized .columns-most)
 
-shared-slice-read-wide : tie.Need-shared-slice-read-wide Inv-loop μ-loop
-shared-slice-read-wide c = let k = c .before .before .before .before .before .before in omega (arith, k .pre .1, k .pre .0 .counts-all)
+shared-slice-read-wide-entry : tie.Need-shared-slice-read-wide-entry Inv-loop μ-loop
+shared-slice-read-wide-entry c = let k = c .before .before .before .before .before .before in omega (arith, k .pre .1, k .pre .0 .counts-all)
 
-wide-requires : tie.Need-wide-requires Inv-loop μ-loop
-wide-requires c κs = search needs
+wide-entry-requires : tie.Need-wide-entry-requires Inv-loop μ-loop
+wide-entry-requires c κs = search needs
 
 loop-holds : tie.Need-loop-holds Inv-loop μ-loop
 loop-holds c =
@@ -151,9 +151,9 @@ cuts-match-spec =
     Inv-loop
     μ-loop
     mul-base
-    mul-wide
-    shared-slice-read-wide
-    wide-requires
+    mul-wide-entry
+    shared-slice-read-wide-entry
+    wide-entry-requires
     loop-holds
     sub-value-at
     value-at-requires

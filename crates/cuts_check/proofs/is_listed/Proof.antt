@@ -9,22 +9,22 @@ use borrow.Author.Needs.{needs}
 use Rattle.cuts_check.proofs.is_listed.Statement.{statement}
 use Rattle.cuts_check.proofs.is_listed.Tie as tie
 
-add-wide : tie.Need-add-wide
-add-wide c = search needs
+add-wide-entry : tie.Need-add-wide-entry
+add-wide-entry c = search needs
 
-mul-wide : tie.Need-mul-wide
-mul-wide c = search needs
+mul-wide-entry : tie.Need-mul-wide-entry
+mul-wide-entry c = search needs
 
-shared-slice-read-wide : tie.Need-shared-slice-read-wide
-shared-slice-read-wide c = search needs
+shared-slice-read-wide-entry : tie.Need-shared-slice-read-wide-entry
+shared-slice-read-wide-entry c = search needs
 
-wide-requires : tie.Need-wide-requires
-wide-requires c κs = search needs
+wide-entry-requires : tie.Need-wide-entry-requires
+wide-entry-requires c κs = search needs
 
 returns : tie.Need-returns
 returns c =
     let a = c .before .before .before .before .args in
-    ap (λ (x : ℕ). eqb x (a .place)) (c .wide .ensures)
+    ap (λ (x : ℕ). eqb x (a .place)) (c .wide-entry .ensures .0)
     ∙ sym (ap (λ (t : Bool). t && eqb (getD (a .cuts .now) (a .base + a .number) 0) (a .place)) (lt-ltb (a .number) (a .count) (search needs)))
 
 returns-2 : tie.Need-returns-2
@@ -34,4 +34,4 @@ returns-2 c =
 
 pub is-listed-spec : {M : Type 1} → statement M
 is-listed-spec =
-    tie.close (tie.spec add-wide mul-wide shared-slice-read-wide wide-requires returns returns-2)
+    tie.close (tie.spec add-wide-entry mul-wide-entry shared-slice-read-wide-entry wide-entry-requires returns returns-2)

@@ -41,26 +41,26 @@ loop-holds c =
 abbrev start-of : tie.At-loop Inv-loop μ-loop → tie.Start Inv-loop μ-loop
 start-of h = h .before .before .before .before .before .before
 
-add-row-number : tie.Need-add-row-number Inv-loop μ-loop
-add-row-number c =
+add-wide-entry : tie.Need-add-wide-entry Inv-loop μ-loop
+add-wide-entry c =
     let p = start-of (c .before .before) in
     record { fits = place-in (p .args .column * p .args .size .rows) (c .before .before .loop .i) (p .args .size .rows) (length (p .args .order .now)) (c .if1 .taken) (p .pre .ordered) (p .good .1 .1 .1 .1 .1 .1 .0 .0) }
 
-mul-row-number : tie.Need-mul-row-number Inv-loop μ-loop
-mul-row-number c =
+mul-wide-entry : tie.Need-mul-wide-entry Inv-loop μ-loop
+mul-wide-entry c =
     let p = start-of (c .before .before) in
     record { fits = twice-in (p .args .column * p .args .size .rows) (c .before .before .loop .i) (p .args .size .rows) (length (p .args .order .now)) (c .if1 .taken) (p .pre .ordered) (p .good .1 .1 .1 .1 .1 .1 .0 .1) }
 
-shared-slice-read-row-number : tie.Need-shared-slice-read-row-number Inv-loop μ-loop
-shared-slice-read-row-number c =
+shared-slice-read-wide-entry : tie.Need-shared-slice-read-wide-entry Inv-loop μ-loop
+shared-slice-read-wide-entry c =
     let p = start-of (c .before .before .before) in
     within-list (p .args .column * p .args .size .rows) (c .before .before .before .loop .i) (p .args .size .rows) (length (p .args .order .now)) (c .before .if1 .taken) (p .pre .ordered)
 
-row-number-requires : tie.Need-row-number-requires Inv-loop μ-loop
-row-number-requires c κs = search needs
+wide-entry-requires : tie.Need-wide-entry-requires Inv-loop μ-loop
+wide-entry-requires c κs = search needs
 
 -- at a row: the loop's head, and that the row is one of the sheet's
-module _ (c : tie.After-row-number Inv-loop μ-loop) where
+module _ (c : tie.After-wide-entry Inv-loop μ-loop) where
   abbrev head : tie.At-loop Inv-loop μ-loop
   head = c .before .before .before .before
 
@@ -82,11 +82,11 @@ module _ (c : tie.After-row-number Inv-loop μ-loop) where
   test : head .loop .i < start .args .size .rows
   test = c .before .before .if1 .taken
 
-  row-is : c .row-number .result ≡ row
+  row-is : c .wide-entry .result ≡ row
   unfolding rowAt
-  row-is = c .row-number .ensures
+  row-is = c .wide-entry .ensures .0
 
-  row-in : c .row-number .result < start .args .size .rows
+  row-in : c .wide-entry .result < start .args .size .rows
   row-in = subst (λ (n : ℕ). n < start .args .size .rows) (sym row-is) (start .pre .in-rows (head .loop .i) test)
 
 element-copy-out-is-own : tie.Need-element-copy-out-is-own Inv-loop μ-loop
@@ -95,32 +95,32 @@ element-copy-out-is-own c = omega (arith, row-in c, start c .pre .few)
 is-own-requires : tie.Need-is-own-requires Inv-loop μ-loop
 is-own-requires c κs = search needs
 
-shared-slice-read-label-number : tie.Need-shared-slice-read-label-number Inv-loop μ-loop
-shared-slice-read-label-number c =
+shared-slice-read-wide-byte : tie.Need-shared-slice-read-wide-byte Inv-loop μ-loop
+shared-slice-read-wide-byte c =
     let d = c .before .before .before .before in
     omega (arith, row-in d, start d .pre .coded)
 
-label-number-requires : tie.Need-label-number-requires Inv-loop μ-loop
-label-number-requires c κs = search needs
+wide-byte-requires : tie.Need-wide-byte-requires Inv-loop μ-loop
+wide-byte-requires c κs = search needs
 
 add-value : tie.Need-add-value Inv-loop μ-loop
 add-value c =
     let d = c .before .before .before .before .before in
-    record { fits = place-in (base d) (d .row-number .result) (start d .args .size .rows) (length (start d .args .values .now)) (row-in d) (start d .pre .valued) (start d .good .1 .1 .1 .1 .0 .0) }
+    record { fits = place-in (base d) (d .wide-entry .result) (start d .args .size .rows) (length (start d .args .values .now)) (row-in d) (start d .pre .valued) (start d .good .1 .1 .1 .1 .0 .0) }
 
 mul-value : tie.Need-mul-value Inv-loop μ-loop
 mul-value c =
     let d = c .before .before .before .before .before in
-    record { fits = eight-in (base d) (d .row-number .result) (start d .args .size .rows) (length (start d .args .values .now)) (row-in d) (start d .pre .valued) (start d .good .1 .1 .1 .1 .0 .1) }
+    record { fits = eight-in (base d) (d .wide-entry .result) (start d .args .size .rows) (length (start d .args .values .now)) (row-in d) (start d .pre .valued) (start d .good .1 .1 .1 .1 .0 .1) }
 
 shared-slice-read-value : tie.Need-shared-slice-read-value Inv-loop μ-loop
 shared-slice-read-value c =
     let d = c .before .before .before .before .before .before in
-    within-list (base d) (d .row-number .result) (start d .args .size .rows) (length (start d .args .values .now)) (row-in d) (start d .pre .valued)
+    within-list (base d) (d .wide-entry .result) (start d .args .size .rows) (length (start d .args .values .now)) (row-in d) (start d .pre .valued)
 
 -- at the test of the row's side
 module _ (c : tie.After-is-own Inv-loop μ-loop) where
-  abbrev at : tie.After-row-number Inv-loop μ-loop
+  abbrev at : tie.After-wide-entry Inv-loop μ-loop
   at = c .before .before
 
   own-is : c .is-own .result ≡ mine (start at .args .left) (start at .args .sides .now) (row at)
@@ -130,22 +130,22 @@ module _ (c : tie.After-is-own Inv-loop μ-loop) where
   Next = Walking (sheet at) (start at .args .sides .now) (start at .args .column) (start at .args .left) (first at) (head at .loop .i + 1)
 
   -- a row's label, read by the number that the code has
-  label-at : (l : ℕ) → l ≡ getD (start at .args .codes .now) (at .row-number .result) 0 → l ≡ labelOf (sheet at) (row at)
+  label-at : (l : ℕ) → l ≡ getD (start at .args .codes .now) (at .wide-entry .result) 0 → l ≡ labelOf (sheet at) (row at)
   unfolding labelOf
   label-at l e = e ∙ ap (λ (r : ℕ). getD (start at .args .codes .now) r 0) (row-is at)
 
-  value-at : getD (start at .args .values .now) (base at + at .row-number .result) nan ≡ valueOf (sheet at) (start at .args .column) (row at)
+  value-at : getD (start at .args .values .now) (base at + at .wide-entry .result) nan ≡ valueOf (sheet at) (start at .args .column) (row at)
   unfolding valueOf
   value-at = ap (λ (r : ℕ). getD (start at .args .values .now) (base at + r) nan) (row-is at)
 
-  advances : (l : ℕ) → l ≡ getD (start at .args .codes .now) (at .row-number .result) 0 → (u : SideScan)
-      → u ≡ stepOf (head at .loop .next) (start at .args .column) l (getD (start at .args .values .now) (base at + at .row-number .result) nan) → c .is-own .result ≡ true → Next u
+  advances : (l : ℕ) → l ≡ getD (start at .args .codes .now) (at .wide-entry .result) 0 → (u : SideScan)
+      → u ≡ stepOf (head at .loop .next) (start at .args .column) l (getD (start at .args .values .now) (base at + at .wide-entry .result) nan) → c .is-own .result ≡ true → Next u
   advances l k u e y =
       subst Next
       (sym (e ∙ ap₂ (λ (l : ℕ) (v : Float). stepOf (head at .loop .next) (start at .args .column) l v) (label-at l k) value-at))
       (takes (sheet at) (start at .args .sides .now) (start at .args .column) (start at .args .left) (first at) (head at .loop .i) (head at .loop .next) (head at .loop .inv) (test at) (c .is-own .result) own-is y)
 
-  can : (l : ℕ) → l ≡ getD (start at .args .codes .now) (at .row-number .result) 0 → c .is-own .result ≡ true → Steppable (head at .loop .next) l
+  can : (l : ℕ) → l ≡ getD (start at .args .codes .now) (at .wide-entry .result) 0 → c .is-own .result ≡ true → Steppable (head at .loop .next) l
   can l k y =
       subst (Steppable (head at .loop .next)) (sym (label-at l k))
       (steppable (sheet at) (start at .args .sides .now) (start at .args .column) (start at .args .left) (first at) (head at .loop .i) (head at .loop .next) (head at .loop .inv) (test at) (c .is-own .result) own-is y
@@ -154,7 +154,7 @@ module _ (c : tie.After-is-own Inv-loop μ-loop) where
 advanced-requires : tie.Need-advanced-requires Inv-loop μ-loop
 advanced-requires c κs =
     let d = c .before .before .before .before in
-    can d (c .before .label-number .result) (c .before .label-number .ensures) (c .before .before .before .if2 .taken)
+    can d (c .before .wide-byte .result) (c .before .wide-byte .ensures) (c .before .before .before .if2 .taken)
 
 add-i : tie.Need-add-i Inv-loop μ-loop
 add-i c = search needs
@@ -189,14 +189,14 @@ walk-side-spec =
     restart-requires
     mul-base
     loop-holds
-    add-row-number
-    mul-row-number
-    shared-slice-read-row-number
-    row-number-requires
+    add-wide-entry
+    mul-wide-entry
+    shared-slice-read-wide-entry
+    wide-entry-requires
     element-copy-out-is-own
     is-own-requires
-    shared-slice-read-label-number
-    label-number-requires
+    shared-slice-read-wide-byte
+    wide-byte-requires
     add-value
     mul-value
     shared-slice-read-value

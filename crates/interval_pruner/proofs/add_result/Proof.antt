@@ -3,11 +3,6 @@ use borrow.Author.Needs.{needs}
 use Rattle.interval_pruner.specs.Pruner.{zerosAfter}
 use Rattle.interval_pruner.proofs.add_result.Statement.{statement}
 use Rattle.interval_pruner.proofs.add_result.Tie as tie
-use Rattle.interval_pruner.proofs.add_result.Reads as reads
-use Rattle.interval_pruner.proofs.add_result.Lts as lts
-use Rattle.interval_pruner.proofs.highest_zero.Reads as highest-zero-reads
-use Rattle.interval_pruner.proofs.lowest_zero.Reads as lowest-zero-reads
-use Rattle.interval_pruner.proofs.store_both.Reads as store-both-reads
 
 store-both-requires : tie.Need-store-both-requires
 store-both-requires c κs = search needs

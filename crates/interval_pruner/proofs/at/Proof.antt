@@ -6,14 +6,14 @@ use lib.ListN.{List·getD-eq-default}
 use Rattle.interval_pruner.proofs.at.Statement.{statement}
 use Rattle.interval_pruner.proofs.at.Tie as tie
 
-mul-wide : tie.Need-mul-wide
-mul-wide c = search needs
+mul-wide-word : tie.Need-mul-wide-word
+mul-wide-word c = search needs
 
-shared-slice-read-wide : tie.Need-shared-slice-read-wide
-shared-slice-read-wide c = search needs
+shared-slice-read-wide-word : tie.Need-shared-slice-read-wide-word
+shared-slice-read-wide-word c = search needs
 
-wide-requires : tie.Need-wide-requires
-wide-requires c κs = search needs
+wide-word-requires : tie.Need-wide-word-requires
+wide-word-requires c κs = search needs
 
 returns : tie.Need-returns
 returns c = search needs
@@ -24,4 +24,4 @@ returns-2 c =
     (sym (List·getD-eq-default (a .table .now) 0 (c .if1 .left)), omega arith)
 
 pub at-spec : {M : Type 1} → statement M
-at-spec = tie.close (tie.spec mul-wide shared-slice-read-wide wide-requires returns returns-2)
+at-spec = tie.close (tie.spec mul-wide-word shared-slice-read-wide-word wide-word-requires returns returns-2)

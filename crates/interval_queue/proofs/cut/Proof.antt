@@ -21,8 +21,8 @@ cut-of (suc k) h = ap Cut (back k)
     back : (k : ℕ) → suc k - 1 ≡ k
     back k = omega arith
 
-wide-requires : tie.Need-wide-requires
-wide-requires c κs = search needs
+wide-word-requires : tie.Need-wide-word-requires
+wide-word-requires c κs = search needs
 
 sub-t5 : tie.Need-sub-t5
 sub-t5 c = search needs
@@ -31,7 +31,7 @@ returns : tie.Need-returns
 returns c = none-of (c .before .args .word) (omega arith)
 
 returns-2 : tie.Need-returns-2
-returns-2 c = ap (λ (n : ℕ). Cut (n - 1)) (c .wide .ensures) ∙ cut-of (c .before .before .args .word) (omega arith)
+returns-2 c = ap (λ (n : ℕ). Cut (n - 1)) (c .wide-word .ensures .0) ∙ cut-of (c .before .before .args .word) (omega arith)
 
 pub cut-spec : {M : Type 1} → statement M
-cut-spec = tie.close (tie.spec wide-requires sub-t5 returns returns-2)
+cut-spec = tie.close (tie.spec wide-word-requires sub-t5 returns returns-2)

@@ -28,26 +28,26 @@ shared-slice-read-cut-2 c = search needs
 cut-requires-2 : tie.Need-cut-requires-2
 cut-requires-2 c κs = search needs
 
-mul-wide : tie.Need-mul-wide
-mul-wide c = search needs
+mul-wide-word : tie.Need-mul-wide-word
+mul-wide-word c = search needs
 
-shared-slice-read-wide : tie.Need-shared-slice-read-wide
-shared-slice-read-wide c = search needs
+shared-slice-read-wide-word : tie.Need-shared-slice-read-wide-word
+shared-slice-read-wide-word c = search needs
 
-wide-requires : tie.Need-wide-requires
-wide-requires c κs = search needs
+wide-word-requires : tie.Need-wide-word-requires
+wide-word-requires c κs = search needs
 
-add-wide : tie.Need-add-wide
-add-wide c = search needs
+add-wide-word : tie.Need-add-wide-word
+add-wide-word c = search needs
 
-mul-wide-2 : tie.Need-mul-wide-2
-mul-wide-2 c = search needs
+mul-wide-word-2 : tie.Need-mul-wide-word-2
+mul-wide-word-2 c = search needs
 
-shared-slice-read-wide-2 : tie.Need-shared-slice-read-wide-2
-shared-slice-read-wide-2 c = search needs
+shared-slice-read-wide-word-2 : tie.Need-shared-slice-read-wide-word-2
+shared-slice-read-wide-word-2 c = search needs
 
-wide-requires-2 : tie.Need-wide-requires-2
-wide-requires-2 c κs = search needs
+wide-word-requires-2 : tie.Need-wide-word-requires-2
+wide-word-requires-2 c κs = search needs
 
 returns : tie.Need-returns
 unfolding loaded
@@ -65,11 +65,11 @@ load-spec =
     mul-cut-2
     shared-slice-read-cut-2
     cut-requires-2
-    mul-wide
-    shared-slice-read-wide
-    wide-requires
-    add-wide
-    mul-wide-2
-    shared-slice-read-wide-2
-    wide-requires-2
+    mul-wide-word
+    shared-slice-read-wide-word
+    wide-word-requires
+    add-wide-word
+    mul-wide-word-2
+    shared-slice-read-wide-word-2
+    wide-word-requires-2
     returns)

@@ -19,8 +19,8 @@ enum-known-left c = search needs
 sum-at-requires : tie.Need-sum-at-requires
 sum-at-requires c κs = search needs
 
-wide-requires : tie.Need-wide-requires
-wide-requires c κs = search needs
+wide-word-requires : tie.Need-wide-word-requires
+wide-word-requires c κs = search needs
 
 between-requires-2 : tie.Need-between-requires-2
 between-requires-2 c κs = search needs
@@ -32,7 +32,7 @@ returns c =
     let p = q .before .before .before in
     λ up.
     c .between2 .ensures ∙
-    start-under _ _ _ _ _ _ _ (p .left .given .1) (omega (arith, q .before .sum-at .ensures .0, q .wide .ensures .0, c .before .if1 .taken))
+    start-under _ _ _ _ _ _ _ (p .left .given .1) (omega (arith, q .before .sum-at .ensures .0, q .wide-word .ensures .0, c .before .if1 .taken))
 
 place-at-requires : tie.Need-place-at-requires
 place-at-requires c κs = search needs
@@ -58,7 +58,7 @@ returns-3 c =
     let q = c .before .before .before .before in
     let p = q .before .before .before in
     let s = q .before .sum-at .ensures .0 in
-    let w = q .wide .ensures .0 in
+    let w = q .wide-word .ensures .0 in
     λ up.
     c .between3 .ensures ∙
     start-over _ _ _ _ _ _ _ (p .left .given .1) (omega (arith, s, w, c .before .before .before .if1 .left)) _ _
@@ -72,7 +72,7 @@ away-from-left-spec =
     between-requires
     enum-known-left
     sum-at-requires
-    wide-requires
+    wide-word-requires
     between-requires-2
     returns
     place-at-requires

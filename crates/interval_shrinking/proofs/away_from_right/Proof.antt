@@ -20,8 +20,8 @@ enum-known-right c = search needs
 sum-at-requires : tie.Need-sum-at-requires
 sum-at-requires c κs = search needs
 
-wide-requires : tie.Need-wide-requires
-wide-requires c κs = search needs
+wide-word-requires : tie.Need-wide-word-requires
+wide-word-requires c κs = search needs
 
 between-requires-2 : tie.Need-between-requires-2
 between-requires-2 c κs = search needs
@@ -33,7 +33,7 @@ returns c =
     let p = q .before .before .before in
     λ up.
     c .between2 .ensures ∙
-    end-under _ _ _ _ _ _ _ (p .right .given .1) (omega (arith, q .before .sum-at .ensures .0, q .wide .ensures .0, c .before .if1 .taken))
+    end-under _ _ _ _ _ _ _ (p .right .given .1) (omega (arith, q .before .sum-at .ensures .0, q .wide-word .ensures .0, c .before .if1 .taken))
 
 place-at-requires : tie.Need-place-at-requires
 place-at-requires c κs = search needs
@@ -56,7 +56,7 @@ returns-3 c =
     let q = c .before .before .before .before in
     let p = q .before .before .before in
     let s = q .before .sum-at .ensures .0 in
-    let w = q .wide .ensures .0 in
+    let w = q .wide-word .ensures .0 in
     λ up.
     c .up-to .ensures up ∙
     end-over _ _ _ _ _ _ _ (p .right .given .1) (omega (arith, s, w, c .before .before .before .if1 .left)) _
@@ -70,7 +70,7 @@ away-from-right-spec =
     between-requires
     enum-known-right
     sum-at-requires
-    wide-requires
+    wide-word-requires
     between-requires-2
     returns
     place-at-requires

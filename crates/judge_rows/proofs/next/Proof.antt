@@ -13,10 +13,10 @@ use Rattle.judge_rows.proofs.next.Tie as tie
 
 -- ---- the start, and what was read
 
-abbrev start : tie.After-wide → tie.Start
+abbrev start : tie.After-wide-byte → tie.Start
 start w = w .before .before .before .before
 
-abbrev code : tie.After-side2 → tie.After-wide
+abbrev code : tie.After-side2 → tie.After-wide-byte
 code k = k .before .before .before
 
 abbrev question : tie.After-goes-left → tie.After-side2
@@ -25,9 +25,9 @@ question g = g .before .before .before .before
 abbrev sheet : tie.Start → Sheet
 sheet z = sheetOf (z .args .size) (z .args .values .now) (z .args .codes .now) [] [] []
 
-label-read : (w : tie.After-wide) → w .wide .result ≡ labelOf (sheet (start w)) (start w .args .row)
+label-read : (w : tie.After-wide-byte) → w .wide-byte .result ≡ labelOf (sheet (start w)) (start w .args .row)
 unfolding labelOf
-label-read w = w .wide .ensures
+label-read w = w .wide-byte .ensures
 
 -- the value that the side's question asks for is in the list
 in-cells : (k : tie.After-side2)
@@ -39,11 +39,11 @@ in-cells k =
 
 -- ---- the needs
 
-shared-slice-read-wide : tie.Need-shared-slice-read-wide
-shared-slice-read-wide c = let z = c .before .before .before in omega (arith, z .pre .0 .codes-all, z .pre .2)
+shared-slice-read-wide-byte : tie.Need-shared-slice-read-wide-byte
+shared-slice-read-wide-byte c = let z = c .before .before .before in omega (arith, z .pre .0 .codes-all, z .pre .2)
 
-wide-requires : tie.Need-wide-requires
-wide-requires c κs = search needs
+wide-byte-requires : tie.Need-wide-byte-requires
+wide-byte-requires c κs = search needs
 
 add-rows : tie.Need-add-rows
 add-rows c = let z = start (c .before) in omega (arith, z .pre .3 .rows-in, z .pre .2, z .pre .0 .rows-most)
@@ -91,7 +91,7 @@ returns c =
     let g = c .before .before .before in
     let w = code (question g) in
     let z = start w in
-    next-left (sheet z) (z .args .side) (z .args .row) (z .args .seen) (w .wide .result) (c .before .mistake2 .result) (label-read w) _ _ _ _ _ _
+    next-left (sheet z) (z .args .side) (z .args .row) (z .args .seen) (w .wide-byte .result) (c .before .mistake2 .result) (label-read w) _ _ _ _ _ _
     (question g .side2 .given .1) (sym (g .goes-left .ensures) ∙ c .before .before .if1 .taken) (c .before .mistake2 .ensures .0)
 
 mistake-requires-3 : tie.Need-mistake-requires-3
@@ -107,7 +107,7 @@ returns-2 c =
     let k = c .before .before .before in
     let w = k .before .before .before in
     let z = start w in
-    next-leaf (sheet z) (z .args .side) (z .args .row) (z .args .seen) (w .wide .result) (c .before .mistake .result) (label-read w) _ _
+    next-leaf (sheet z) (z .args .side) (z .args .row) (z .args .seen) (w .wide-byte .result) (c .before .mistake .result) (label-read w) _ _
     (k .side .given .1) (c .before .mistake .ensures .0)
 
 returns-3 : tie.Need-returns-3
@@ -116,15 +116,15 @@ returns-3 c =
     let g = c .before .before .before in
     let w = code (question g) in
     let z = start w in
-    next-right (sheet z) (z .args .side) (z .args .row) (z .args .seen) (w .wide .result) (c .before .mistake3 .result) (label-read w) _ _ _ _ _ _
+    next-right (sheet z) (z .args .side) (z .args .row) (z .args .seen) (w .wide-byte .result) (c .before .mistake3 .result) (label-read w) _ _ _ _ _ _
     (question g .side2 .given .1) (sym (g .goes-left .ensures) ∙ c .before .before .if1 .left) (c .before .mistake3 .ensures .0)
 
 pub next-spec : {M : Type 1} → statement M
 next-spec =
     tie.close
     (tie.spec
-    shared-slice-read-wide
-    wide-requires
+    shared-slice-read-wide-byte
+    wide-byte-requires
     add-rows
     enum-known-side
     mistake-requires

@@ -12,20 +12,17 @@ slice-aggregate-put-field c = search needs
 put-field-requires : tie.Need-put-field-requires
 put-field-requires c κs = search needs
 
+slice-aggregate-put-question : tie.Need-slice-aggregate-put-question
+slice-aggregate-put-question c = search needs
+
+put-question-requires : tie.Need-put-question-requires
+put-question-requires c κs = search needs
+
 slice-aggregate-put-field-2 : tie.Need-slice-aggregate-put-field-2
 slice-aggregate-put-field-2 c = search needs
 
 put-field-requires-2 : tie.Need-put-field-requires-2
 put-field-requires-2 c κs = search needs
-
-put-threshold-requires : tie.Need-put-threshold-requires
-put-threshold-requires c κs = search needs
-
-slice-aggregate-put-field-3 : tie.Need-slice-aggregate-put-field-3
-slice-aggregate-put-field-3 c = search needs
-
-put-field-requires-3 : tie.Need-put-field-requires-3
-put-field-requires-3 c κs = search needs
 
 slice-aggregate-put-bytes : tie.Need-slice-aggregate-put-bytes
 slice-aggregate-put-bytes c = search needs
@@ -39,7 +36,7 @@ same-length c = search needs
 returns : tie.Need-returns
 unfolding foundOf
 returns c = (
-  joined (joined (joined (joined (c .before .before .before .before .before .before .before .before .before .before .before .before .before .before .before .before .before .before .before .before .before .put-field .ensures .0) (c .before .before .before .before .before .before .before .before .before .before .before .before .before .before .before .before .put-field2 .ensures .0)) (c .before .before .before .before .before .before .before .before .before .before .before .before .put-threshold .ensures .0)) (c .before .before .before .before .before .before .before .put-field3 .ensures .0)) (c .before .before .put-bytes .ensures),
+  joined (joined (joined (c .before .before .before .before .before .before .before .before .before .before .before .before .before .before .before .before .before .put-field .ensures .0) (c .before .before .before .before .before .before .before .before .before .before .before .before .put-question .ensures .0)) (c .before .before .before .before .before .before .before .put-field2 .ensures .0)) (c .before .before .put-bytes .ensures),
   omega arith,
 )
 
@@ -49,11 +46,10 @@ put-found-spec =
     (tie.spec
     slice-aggregate-put-field
     put-field-requires
+    slice-aggregate-put-question
+    put-question-requires
     slice-aggregate-put-field-2
     put-field-requires-2
-    put-threshold-requires
-    slice-aggregate-put-field-3
-    put-field-requires-3
     slice-aggregate-put-bytes
     put-bytes-requires
     same-length

@@ -6,14 +6,11 @@ use Rattle.digits.proofs.Puts.{joined}
 use Rattle.listing.proofs.put_split.Statement.{statement}
 use Rattle.listing.proofs.put_split.Tie as tie
 
-slice-aggregate-put-field : tie.Need-slice-aggregate-put-field
-slice-aggregate-put-field c = search needs
+slice-aggregate-put-question : tie.Need-slice-aggregate-put-question
+slice-aggregate-put-question c = search needs
 
-put-field-requires : tie.Need-put-field-requires
-put-field-requires c κs = search needs
-
-put-threshold-requires : tie.Need-put-threshold-requires
-put-threshold-requires c κs = search needs
+put-question-requires : tie.Need-put-question-requires
+put-question-requires c κs = search needs
 
 slice-aggregate-put-score : tie.Need-slice-aggregate-put-score
 slice-aggregate-put-score c = search needs
@@ -39,7 +36,7 @@ same-length c = search needs
 returns : tie.Need-returns
 unfolding splitOf
 returns c = (
-  joined (joined (joined (joined (c .before .before .before .before .before .before .before .before .before .before .before .before .before .before .before .before .before .before .before .before .before .put-field .ensures .0) (c .before .before .before .before .before .before .before .before .before .before .before .before .before .before .before .before .before .put-threshold .ensures .0)) (c .before .before .before .before .before .before .before .before .before .before .before .before .put-score .ensures .0)) (c .before .before .before .before .before .before .before .put-score2 .ensures .0)) (c .before .before .put-bytes .ensures),
+  joined (joined (joined (c .before .before .before .before .before .before .before .before .before .before .before .before .before .before .before .before .before .put-question .ensures .0) (c .before .before .before .before .before .before .before .before .before .before .before .before .put-score .ensures .0)) (c .before .before .before .before .before .before .before .put-score2 .ensures .0)) (c .before .before .put-bytes .ensures),
   omega arith,
 )
 
@@ -47,9 +44,8 @@ pub put-split-spec : {M : Type 1} → statement M
 put-split-spec =
     tie.close
     (tie.spec
-    slice-aggregate-put-field
-    put-field-requires
-    put-threshold-requires
+    slice-aggregate-put-question
+    put-question-requires
     slice-aggregate-put-score
     put-score-requires
     slice-aggregate-put-score-2

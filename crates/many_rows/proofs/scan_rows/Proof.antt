@@ -64,26 +64,26 @@ loop-holds c =
 abbrev start-of : tie.At-loop Inv-loop μ-loop → tie.Start Inv-loop μ-loop
 start-of h = h .before .before .before .before .before .before
 
-add-row-number : tie.Need-add-row-number Inv-loop μ-loop
-add-row-number c =
+add-wide-entry : tie.Need-add-wide-entry Inv-loop μ-loop
+add-wide-entry c =
     let p = start-of (c .before .before) in
     record { fits = place-in (p .args .column * p .args .size .rows) (c .before .before .loop .i) (p .args .size .rows) (length (p .args .order .now)) (c .if1 .taken) (p .pre .ordered) (p .good .1 .1 .1 .1 .1 .1 .1 .0 .0) }
 
-mul-row-number : tie.Need-mul-row-number Inv-loop μ-loop
-mul-row-number c =
+mul-wide-entry : tie.Need-mul-wide-entry Inv-loop μ-loop
+mul-wide-entry c =
     let p = start-of (c .before .before) in
     record { fits = twice-in (p .args .column * p .args .size .rows) (c .before .before .loop .i) (p .args .size .rows) (length (p .args .order .now)) (c .if1 .taken) (p .pre .ordered) (p .good .1 .1 .1 .1 .1 .1 .1 .0 .1) }
 
-shared-slice-read-row-number : tie.Need-shared-slice-read-row-number Inv-loop μ-loop
-shared-slice-read-row-number c =
+shared-slice-read-wide-entry : tie.Need-shared-slice-read-wide-entry Inv-loop μ-loop
+shared-slice-read-wide-entry c =
     let p = start-of (c .before .before .before) in
     within-list (p .args .column * p .args .size .rows) (c .before .before .before .loop .i) (p .args .size .rows) (length (p .args .order .now)) (c .before .if1 .taken) (p .pre .ordered)
 
-row-number-requires : tie.Need-row-number-requires Inv-loop μ-loop
-row-number-requires c κs = search needs
+wide-entry-requires : tie.Need-wide-entry-requires Inv-loop μ-loop
+wide-entry-requires c κs = search needs
 
 -- at a row: the loop's head, and that the row is one of the sheet's
-module _ (c : tie.After-row-number Inv-loop μ-loop) where
+module _ (c : tie.After-wide-entry Inv-loop μ-loop) where
   abbrev head : tie.At-loop Inv-loop μ-loop
   head = c .before .before .before .before
 
@@ -102,45 +102,45 @@ module _ (c : tie.After-row-number Inv-loop μ-loop) where
   test : head .loop .i < start .args .size .rows
   test = c .before .before .if1 .taken
 
-  row-is : c .row-number .result ≡ row
+  row-is : c .wide-entry .result ≡ row
   unfolding rowAt
-  row-is = c .row-number .ensures
+  row-is = c .wide-entry .ensures .0
 
   row-below : row < start .args .size .rows
   row-below = start .pre .in-rows (head .loop .i) test
 
-  row-in : c .row-number .result < start .args .size .rows
+  row-in : c .wide-entry .result < start .args .size .rows
   row-in = subst (λ (n : ℕ). n < start .args .size .rows) (sym row-is) row-below
 
-shared-slice-read-label-number : tie.Need-shared-slice-read-label-number Inv-loop μ-loop
-shared-slice-read-label-number c = omega (arith, row-in (c .before), start (c .before) .pre .coded)
+shared-slice-read-wide-byte : tie.Need-shared-slice-read-wide-byte Inv-loop μ-loop
+shared-slice-read-wide-byte c = omega (arith, row-in (c .before), start (c .before) .pre .coded)
 
-label-number-requires : tie.Need-label-number-requires Inv-loop μ-loop
-label-number-requires c κs = search needs
+wide-byte-requires : tie.Need-wide-byte-requires Inv-loop μ-loop
+wide-byte-requires c κs = search needs
 
-element-copy-out-side-number : tie.Need-element-copy-out-side-number Inv-loop μ-loop
-element-copy-out-side-number c = omega (arith, row-in (c .before .before), start (c .before .before) .pre .few)
+element-copy-out-wide-byte : tie.Need-element-copy-out-wide-byte Inv-loop μ-loop
+element-copy-out-wide-byte c = omega (arith, row-in (c .before .before), start (c .before .before) .pre .few)
 
-side-number-requires : tie.Need-side-number-requires Inv-loop μ-loop
-side-number-requires c κs = search needs
+wide-byte-requires-2 : tie.Need-wide-byte-requires-2 Inv-loop μ-loop
+wide-byte-requires-2 c κs = search needs
 
 -- at a row: what it is, as the definition reads it
-module _ (c : tie.After-side-number Inv-loop μ-loop) where
-  abbrev at : tie.After-row-number Inv-loop μ-loop
+module _ (c : tie.After-wide-byte2 Inv-loop μ-loop) where
+  abbrev at : tie.After-wide-entry Inv-loop μ-loop
   at = c .before .before .before .before
 
   abbrev label-at : ℕ
-  label-at = c .before .before .label-number .result
+  label-at = c .before .before .wide-byte .result
 
   abbrev side : ℕ
-  side = c .side-number .result
+  side = c .wide-byte2 .result
 
   label-is : label-at ≡ labelOf (sheet at) (row at)
   unfolding labelOf
-  label-is = c .before .before .label-number .ensures ∙ ap (λ (r : ℕ). getD (start at .args .codes .now) r 0) (row-is at)
+  label-is = c .before .before .wide-byte .ensures ∙ ap (λ (r : ℕ). getD (start at .args .codes .now) r 0) (row-is at)
 
   side-is : getD (start at .args .sides .now) (row at) 0 ≡ side
-  side-is = sym (c .side-number .ensures ∙ ap (λ (r : ℕ). getD (start at .args .sides .now) r 0) (row-is at))
+  side-is = sym (c .wide-byte2 .ensures ∙ ap (λ (r : ℕ). getD (start at .args .sides .now) r 0) (row-is at))
 
   side-in : side < 2
   side-in = subst (λ (k : ℕ). k < 2) side-is (start at .pre .numbered (row at) (row-below at))
@@ -198,11 +198,11 @@ array-copy-out-was c = side-in c
 is-passed-requires : tie.Need-is-passed-requires Inv-loop μ-loop
 is-passed-requires c κs =
     let m = c .before in
-    (in-values m (stand-at m .last) (stands m .among), in-values m (at m .row-number .result) (row-in (at m)), room m)
+    (in-values m (stand-at m .last) (stands m .among), in-values m (at m .wide-entry .result) (row-in (at m)), room m)
 
 -- whether the row is only counted
 module _ (c : tie.After-is-passed Inv-loop μ-loop) where
-  abbrev met : tie.After-side-number Inv-loop μ-loop
+  abbrev met : tie.After-wide-byte2 Inv-loop μ-loop
   met = c .before .before
 
   passed-is : c .is-passed .result ≡ passed (start (at met) .args .values .now) (base (at met)) (row (at met)) (stand-at met .last) (stand-at met .counted) (stand-at met .until)
@@ -248,7 +248,7 @@ module _ (c : tie.After-score-cut Inv-loop μ-loop) where
   abbrev tested : tie.After-is-passed Inv-loop μ-loop
   tested = c .before .before .before .before .before
 
-  abbrev this : tie.After-side-number Inv-loop μ-loop
+  abbrev this : tie.After-wide-byte2 Inv-loop μ-loop
   this = met tested
 
   abbrev cut : Cut
@@ -278,7 +278,7 @@ split-at-requires c κs =
       second-in own (counts m) (share-at m .labels) (stand-at m .counted) (share-at m .size) h (cut k .peaks) (peaks-are k),
       small m,
       in-values m (stand-at m .last) (stands m .among),
-      in-values m (at m .row-number .result) (row-in (at m)),
+      in-values m (at m .wide-entry .result) (row-in (at m)),
     )
 
 mul-best : tie.Need-mul-best Inv-loop μ-loop
@@ -301,7 +301,7 @@ module _ (c : tie.Joined3 Inv-loop μ-loop) where
   abbrev scored-at : tie.After-score-cut Inv-loop μ-loop
   scored-at = c .before
 
-  abbrev one : tie.After-side-number Inv-loop μ-loop
+  abbrev one : tie.After-wide-byte2 Inv-loop μ-loop
   one = this scored-at
 
   abbrev head-at : tie.At-loop Inv-loop μ-loop
@@ -346,7 +346,7 @@ module _ (c : tie.Joined3 Inv-loop μ-loop) where
 
 -- where the ways of a row meet
 module _ (c : tie.Joined2 Inv-loop μ-loop) where
-  abbrev that : tie.After-side-number Inv-loop μ-loop
+  abbrev that : tie.After-wide-byte2 Inv-loop μ-loop
   that = met (c .before)
 
   -- the sides after the row, as the code has it
@@ -381,9 +381,9 @@ module _ (c : tie.Joined2 Inv-loop μ-loop) where
       (subst (λ (bs : List Best). Next bs (head (at that) .loop .stand) (labelOf (sheet (at that)) (row (at that))) (row (at that))) (sym (w .1)) (counted-on (not-false _ (w .0 .left)))))
       (c .if2 .came)
 
-  next : Next (c .if2 .best) (c .if2 .stand) (label-at that) (at that .row-number .result)
+  next : Next (c .if2 .best) (c .if2 .stand) (label-at that) (at that .wide-entry .result)
   next =
-      subst (λ (l : ℕ). Next (c .if2 .best) (c .if2 .stand) l (at that .row-number .result)) (sym (label-is that))
+      subst (λ (l : ℕ). Next (c .if2 .best) (c .if2 .stand) l (at that .wide-entry .result)) (sym (label-is that))
       (subst (λ (r : ℕ). Next (c .if2 .best) (c .if2 .stand) (labelOf (sheet (at that)) (row (at that))) r) (sym (row-is (at that))) joined)
 
   -- the row's side counts it as one more of its rows
@@ -498,14 +498,14 @@ scan-rows-spec =
     not-begun-requires
     mul-base
     loop-holds
-    add-row-number
-    mul-row-number
-    shared-slice-read-row-number
-    row-number-requires
-    shared-slice-read-label-number
-    label-number-requires
-    element-copy-out-side-number
-    side-number-requires
+    add-wide-entry
+    mul-wide-entry
+    shared-slice-read-wide-entry
+    wide-entry-requires
+    shared-slice-read-wide-byte
+    wide-byte-requires
+    element-copy-out-wide-byte
+    wide-byte-requires-2
     mul-was
     array-copy-out-was
     is-passed-requires

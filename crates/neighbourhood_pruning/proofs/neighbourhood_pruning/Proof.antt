@@ -24,11 +24,11 @@ paired places gap small z excess m first d u l e p q =
       lower = lowerTo (columnOf places [] gap small) z (e i) m first;
     })
 
-wide-requires : tie.Need-wide-requires
-wide-requires c κs = search needs
+wide-word-requires : tie.Need-wide-word-requires
+wide-word-requires c κs = search needs
 
-wide-requires-2 : tie.Need-wide-requires-2
-wide-requires-2 c κs = search needs
+wide-word-requires-2 : tie.Need-wide-word-requires-2
+wide-word-requires-2 c κs = search needs
 
 add-distance : tie.Need-add-distance
 add-distance c = search needs
@@ -45,14 +45,14 @@ returns c =
     let a = p .before .before .before .args in
     λ l.
     paired _ (a .gap) (a .small) (a .zeros) (a .excess) (a .cut) (a .first) _ _ _
-    (omega (arith, p .wide2 .ensures .0, p .before .wide .ensures .0)) (c .before .upper-from .ensures l) (c .lower-to .ensures (l .ascending))
+    (omega (arith, p .wide-word2 .ensures .0, p .before .wide-word .ensures .0)) (c .before .upper-from .ensures l) (c .lower-to .ensures (l .ascending))
 
 pub neighbourhood-pruning-spec : {M : Type 1} → statement M
 neighbourhood-pruning-spec =
     tie.close
     (tie.spec
-    wide-requires
-    wide-requires-2
+    wide-word-requires
+    wide-word-requires-2
     add-distance
     upper-from-requires
     lower-to-requires

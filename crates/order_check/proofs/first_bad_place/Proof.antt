@@ -25,18 +25,18 @@ abbrev μ-loop : tie.MeasureT-loop
 μ-loop size order column marks₀ base mark i₀ marks i = size .rows - i
 
 -- the loop's head and the start, from where the row was read
-abbrev head : tie.After-wide Inv-loop μ-loop → tie.At-loop Inv-loop μ-loop
+abbrev head : tie.After-wide-entry Inv-loop μ-loop → tie.At-loop Inv-loop μ-loop
 head w = w .before .before .before .before
 
-abbrev start : tie.After-wide Inv-loop μ-loop → tie.Start Inv-loop μ-loop
+abbrev start : tie.After-wide-entry Inv-loop μ-loop → tie.Start Inv-loop μ-loop
 start w = head w .before .before .before .before
 
-abbrev sheet : tie.After-wide Inv-loop μ-loop → Sheet
+abbrev sheet : tie.After-wide-entry Inv-loop μ-loop → Sheet
 sheet w = sheetOf (start w .args .size) [] [] (start w .args .order .now) [] []
 
-row-read : (w : tie.After-wide Inv-loop μ-loop) → w .wide .result ≡ rowAt (sheet w) (start w .args .column) (head w .loop .place)
+row-read : (w : tie.After-wide-entry Inv-loop μ-loop) → w .wide-entry .result ≡ rowAt (sheet w) (start w .args .column) (head w .loop .place)
 unfolding rowAt
-row-read w = w .wide .ensures
+row-read w = w .wide-entry .ensures .0
 
 inside : (k : tie.Start Inv-loop μ-loop) → Room (k .args .size .rows) (k .args .column) (length (k .args .order .now))
 inside k = room (k .pre .0) (length (k .args .order .now)) (k .pre .1)
@@ -55,17 +55,17 @@ loop-holds c =
     let k = c .before .before .before in
     (search needs, refl, clean-none, marks-none _ _ _ _ (λ r. omega (arith, k .pre .3 r)))
 
-add-wide : tie.Need-add-wide Inv-loop μ-loop
-add-wide c = omega (arith, inside (c .before .before .before .before .before .before))
+add-wide-entry : tie.Need-add-wide-entry Inv-loop μ-loop
+add-wide-entry c = omega (arith, inside (c .before .before .before .before .before .before))
 
-mul-wide : tie.Need-mul-wide Inv-loop μ-loop
-mul-wide c = omega (arith, inside (c .before .before .before .before .before .before))
+mul-wide-entry : tie.Need-mul-wide-entry Inv-loop μ-loop
+mul-wide-entry c = omega (arith, inside (c .before .before .before .before .before .before))
 
-shared-slice-read-wide : tie.Need-shared-slice-read-wide Inv-loop μ-loop
-shared-slice-read-wide c = omega (arith, inside (c .before .before .before .before .before .before .before))
+shared-slice-read-wide-entry : tie.Need-shared-slice-read-wide-entry Inv-loop μ-loop
+shared-slice-read-wide-entry c = omega (arith, inside (c .before .before .before .before .before .before .before))
 
-wide-requires : tie.Need-wide-requires Inv-loop μ-loop
-wide-requires c κs = search needs
+wide-entry-requires : tie.Need-wide-entry-requires Inv-loop μ-loop
+wide-entry-requires c κs = search needs
 
 same-length : tie.Need-same-length Inv-loop μ-loop
 same-length c = head (c .before .before) .loop .inv .1
@@ -131,10 +131,10 @@ first-bad-place-spec =
     add-mark
     cast-mark
     loop-holds
-    add-wide
-    mul-wide
-    shared-slice-read-wide
-    wide-requires
+    add-wide-entry
+    mul-wide-entry
+    shared-slice-read-wide-entry
+    wide-entry-requires
     same-length
     returns
     mul-if3

@@ -13,8 +13,6 @@ use Rattle.parting.specs.Column.{valueAt, leftOf, leftOfCut, Sorted, IsC
 use Rattle.parting.proofs.Front.{parts-at-the-cut}
 use Rattle.parting.proofs.left_of_cut.Statement.{statement}
 use Rattle.parting.proofs.left_of_cut.Tie as tie
-use Rattle.parting.proofs.left_of_cut.Reads as reads
-use Rattle.parting.proofs.left_of_cut.Lts as lts
 
 -- ---- the definition's three cases
 

@@ -18,9 +18,6 @@ use Rattle.threshold.specs.Threshold.{goesLeft}
 use Rattle.parting.specs.Column.{leftOf}
 use Rattle.parting.proofs.sent_left.Statement.{statement}
 use Rattle.parting.proofs.sent_left.Tie as tie
-use Rattle.parting.proofs.sent_left.Reads as reads
-use Rattle.parting.proofs.sent_left.Lts as lts
-use Rattle.threshold.proofs.goes_left.Reads as goes-left-reads
 
 abbrev Inv-loop : tie.InvT-loop
 Inv-loop values threshold sent₀ i₀ sent i = (i ≤ length values) × (sent ≤ i) × (sent ≡ tally (λ v. goesLeft v threshold) (take i values))

@@ -4,11 +4,11 @@ use borrow.Author.Needs.{needs}
 use Rattle.search_runs.proofs.first_rows.Statement.{statement}
 use Rattle.search_runs.proofs.first_rows.Tie as tie
 
-upto-requires : tie.Need-upto-requires
-upto-requires c κs = search needs
+smaller-requires : tie.Need-smaller-requires
+smaller-requires c κs = search needs
 
-upto-requires-2 : tie.Need-upto-requires-2
-upto-requires-2 c κs = search needs
+smaller-requires-2 : tie.Need-smaller-requires-2
+smaller-requires-2 c κs = search needs
 
 array-share-prefix-values : tie.Need-array-share-prefix-values
 array-share-prefix-values c = search needs
@@ -32,8 +32,8 @@ pub first-rows-spec : {M : Type 1} → statement M
 first-rows-spec =
     tie.close
     (tie.spec
-    upto-requires
-    upto-requires-2
+    smaller-requires
+    smaller-requires-2
     array-share-prefix-values
     slice-aggregate-run-case
     array-share-prefix-codes

@@ -5,11 +5,11 @@ use borrow.Author.Needs.{needs}
 use Rattle.search_runs.proofs.prepare_case.Statement.{statement}
 use Rattle.search_runs.proofs.prepare_case.Tie as tie
 
-upto-requires : tie.Need-upto-requires
-upto-requires c κs = search needs
+smaller-requires : tie.Need-smaller-requires
+smaller-requires c κs = search needs
 
-upto-requires-2 : tie.Need-upto-requires-2
-upto-requires-2 c κs = search needs
+smaller-requires-2 : tie.Need-smaller-requires-2
+smaller-requires-2 c κs = search needs
 
 slice-relend-prefix-prepare : tie.Need-slice-relend-prefix-prepare
 slice-relend-prefix-prepare c = search needs
@@ -60,8 +60,8 @@ pub prepare-case-spec : {M : Type 1} → statement M
 prepare-case-spec =
     tie.close
     (tie.spec
-    upto-requires
-    upto-requires-2
+    smaller-requires
+    smaller-requires-2
     slice-relend-prefix-prepare
     slice-aggregate-prepare
     slice-relend-prefix-prepare-2

@@ -31,15 +31,15 @@ abbrev μ-loop : tie.MeasureT-loop
 loop-holds : tie.Need-loop-holds Inv-loop μ-loop
 loop-holds c = (search needs, clean-none)
 
-shared-slice-read-wide8 : tie.Need-shared-slice-read-wide8 Inv-loop μ-loop
-shared-slice-read-wide8 c = search needs
+shared-slice-read-wide-byte : tie.Need-shared-slice-read-wide-byte Inv-loop μ-loop
+shared-slice-read-wide-byte c = search needs
 
-wide8-requires : tie.Need-wide8-requires Inv-loop μ-loop
-wide8-requires c κs = search needs
+wide-byte-requires : tie.Need-wide-byte-requires Inv-loop μ-loop
+wide-byte-requires c κs = search needs
 
 returns : tie.Need-returns Inv-loop μ-loop
 returns c =
-    clean-stop (c .before .before .before .before .loop .inv .1) (omega arith) (high _ _ _ _ (c .before .wide8 .ensures) (c .if1 .taken))
+    clean-stop (c .before .before .before .before .loop .inv .1) (omega arith) (high _ _ _ _ (c .before .wide-byte .ensures) (c .if1 .taken))
 
 add-i : tie.Need-add-i Inv-loop μ-loop
 add-i c = search needs
@@ -49,7 +49,7 @@ loop-less c = search needs
 
 loop-again : tie.Need-loop-again Inv-loop μ-loop
 loop-again c =
-    (search needs, clean-more (c .before .before .before .before .loop .inv .1) (low _ _ _ _ (c .before .wide8 .ensures) (c .if1 .left)))
+    (search needs, clean-more (c .before .before .before .before .loop .inv .1) (low _ _ _ _ (c .before .wide-byte .ensures) (c .if1 .left)))
 
 returns-2 : tie.Need-returns-2 Inv-loop μ-loop
 returns-2 c = clean-all (c .before .loop .inv .1) (omega arith)
@@ -61,8 +61,8 @@ first-bad-label-spec =
     Inv-loop
     μ-loop
     loop-holds
-    shared-slice-read-wide8
-    wide8-requires
+    shared-slice-read-wide-byte
+    wide-byte-requires
     returns
     add-i
     loop-less

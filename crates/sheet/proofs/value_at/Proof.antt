@@ -7,17 +7,17 @@ use borrow.Author.Needs.{needs}
 use Rattle.sheet.proofs.value_at.Statement.{statement}
 use Rattle.sheet.proofs.value_at.Tie as tie
 
-add-wide : tie.Need-add-wide
-add-wide c = search needs
+add-wide-entry : tie.Need-add-wide-entry
+add-wide-entry c = search needs
 
-mul-wide : tie.Need-mul-wide
-mul-wide c = search needs
+mul-wide-entry : tie.Need-mul-wide-entry
+mul-wide-entry c = search needs
 
-shared-slice-read-wide : tie.Need-shared-slice-read-wide
-shared-slice-read-wide c = search needs
+shared-slice-read-wide-entry : tie.Need-shared-slice-read-wide-entry
+shared-slice-read-wide-entry c = search needs
 
-wide-requires : tie.Need-wide-requires
-wide-requires c κs = search needs
+wide-entry-requires : tie.Need-wide-entry-requires
+wide-entry-requires c κs = search needs
 
 add-result : tie.Need-add-result
 add-result c = search needs
@@ -31,16 +31,16 @@ shared-slice-read-result c = search needs
 returns : tie.Need-returns
 returns c =
     let a = c .before .before .before .before .before .args in
-    ap (λ (row : ℕ). getD (a .values .now) (a .base + row) nan) (c .before .wide .ensures)
+    ap (λ (row : ℕ). getD (a .values .now) (a .base + row) nan) (c .before .wide-entry .ensures .0)
 
 pub value-at-spec : {M : Type 1} → statement M
 value-at-spec =
     tie.close
     (tie.spec
-    add-wide
-    mul-wide
-    shared-slice-read-wide
-    wide-requires
+    add-wide-entry
+    mul-wide-entry
+    shared-slice-read-wide-entry
+    wide-entry-requires
     add-result
     mul-result
     shared-slice-read-result

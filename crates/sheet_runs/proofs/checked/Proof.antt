@@ -5,23 +5,23 @@ use borrow.Author.Needs.{needs}
 use Rattle.sheet_runs.proofs.checked.Statement.{statement}
 use Rattle.sheet_runs.proofs.checked.Tie as tie
 
-upto-requires : tie.Need-upto-requires
-upto-requires c κs = search needs
+smaller-requires : tie.Need-smaller-requires
+smaller-requires c κs = search needs
 
-upto-requires-2 : tie.Need-upto-requires-2
-upto-requires-2 c κs = search needs
+smaller-requires-2 : tie.Need-smaller-requires-2
+smaller-requires-2 c κs = search needs
 
-upto-requires-3 : tie.Need-upto-requires-3
-upto-requires-3 c κs = search needs
+smaller-requires-3 : tie.Need-smaller-requires-3
+smaller-requires-3 c κs = search needs
 
-upto-requires-4 : tie.Need-upto-requires-4
-upto-requires-4 c κs = search needs
+smaller-requires-4 : tie.Need-smaller-requires-4
+smaller-requires-4 c κs = search needs
 
-upto-requires-5 : tie.Need-upto-requires-5
-upto-requires-5 c κs = search needs
+smaller-requires-5 : tie.Need-smaller-requires-5
+smaller-requires-5 c κs = search needs
 
-upto-requires-6 : tie.Need-upto-requires-6
-upto-requires-6 c κs = search needs
+smaller-requires-6 : tie.Need-smaller-requires-6
+smaller-requires-6 c κs = search needs
 
 slice-aggregate-check : tie.Need-slice-aggregate-check
 slice-aggregate-check c = simp length-take (omega arith)
@@ -57,12 +57,12 @@ pub checked-spec : {M : Type 1} → statement M
 checked-spec =
     tie.close
     (tie.spec
-    upto-requires
-    upto-requires-2
-    upto-requires-3
-    upto-requires-4
-    upto-requires-5
-    upto-requires-6
+    smaller-requires
+    smaller-requires-2
+    smaller-requires-3
+    smaller-requires-4
+    smaller-requires-5
+    smaller-requires-6
     slice-aggregate-check
     slice-aggregate-check-2
     slice-aggregate-check-3

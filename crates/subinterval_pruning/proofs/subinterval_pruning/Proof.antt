@@ -32,21 +32,21 @@ held-right-requires c κs = search needs
 add-sum : tie.Need-add-sum
 add-sum c = search needs
 
-wide-requires : tie.Need-wide-requires
-wide-requires c κs = search needs
+wide-word-requires : tie.Need-wide-word-requires
+wide-word-requires c κs = search needs
 
 add-sum-2 : tie.Need-add-sum-2
 add-sum-2 c = search needs
 
-wide-requires-2 : tie.Need-wide-requires-2
-wide-requires-2 c κs = search needs
+wide-word-requires-2 : tie.Need-wide-word-requires-2
+wide-word-requires-2 c κs = search needs
 
 returns : tie.Need-returns
 returns c =
     λ places.
     let p = c .before .before .before in
     tested _ _ _ (p .before .if1 .taken) (p .held-left .ensures .0 places _ _) (c .before .before .held-right .ensures .0 places _ _)
-    (c .before .wide .ensures .0) (c .wide2 .ensures .0)
+    (c .before .wide-word .ensures .0) (c .wide-word2 .ensures .0)
 
 returns-2 : tie.Need-returns-2
 returns-2 c = λ places. untested _ _ _ (c .if1 .left)
@@ -58,8 +58,8 @@ subinterval-pruning-spec =
     held-left-requires
     held-right-requires
     add-sum
-    wide-requires
+    wide-word-requires
     add-sum-2
-    wide-requires-2
+    wide-word-requires-2
     returns
     returns-2)

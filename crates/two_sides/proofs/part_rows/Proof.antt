@@ -46,11 +46,11 @@ loop-holds c =
       numbers = λ r k. absurd (omega (arith, k));
     }
 
-shared-slice-read-label-number : tie.Need-shared-slice-read-label-number Inv-loop μ-loop
-shared-slice-read-label-number c = search needs
+shared-slice-read-wide-byte : tie.Need-shared-slice-read-wide-byte Inv-loop μ-loop
+shared-slice-read-wide-byte c = search needs
 
-label-number-requires : tie.Need-label-number-requires Inv-loop μ-loop
-label-number-requires c κs = search needs
+wide-byte-requires : tie.Need-wide-byte-requires Inv-loop μ-loop
+wide-byte-requires c κs = search needs
 
 mul-marked-side : tie.Need-mul-marked-side Inv-loop μ-loop
 mul-marked-side c = search needs
@@ -75,8 +75,8 @@ module _ (c : tie.After-marked-side Inv-loop μ-loop) where
   test : head .loop .row < start .args .rows
   test = c .before .before .before .before .loop-test .taken
 
-  label-in : c .before .before .label-number .result < 32
-  label-in = subst (λ (l : ℕ). l < 32) (sym (c .before .before .label-number .ensures)) (start .pre .0 .labelled (head .loop .row) test)
+  label-in : c .before .before .wide-byte .result < 32
+  label-in = subst (λ (l : ℕ). l < 32) (sym (c .before .before .wide-byte .ensures)) (start .pre .0 .labelled (head .loop .row) test)
 
   side-is : c .marked-side .result ≡ sideNumber marks (head .loop .row)
   side-is = c .marked-side .ensures
@@ -100,7 +100,7 @@ add-counts : tie.Need-add-counts Inv-loop μ-loop
 add-counts c =
     let r = c .before in
     let h = head r .loop in
-    record { fits = omega (arith, met (start r .args .codes .now) (marks r) (start r .args .rows) (h .row) (h .sides) (h .counts) (h .rest) (h .inv) (r .marked-side .result) (r .before .before .label-number .result) (side-in r) (label-in r), test r, start r .pre .0 .few) }
+    record { fits = omega (arith, met (start r .args .codes .now) (marks r) (start r .args .rows) (h .row) (h .sides) (h .counts) (h .rest) (h .inv) (r .marked-side .result) (r .before .before .wide-byte .result) (side-in r) (label-in r), test r, start r .pre .0 .few) }
 
 mul-counts-3 : tie.Need-mul-counts-3 Inv-loop μ-loop
 mul-counts-3 c = record { fits = omega (arith, side-in (c .before)) }
@@ -147,8 +147,8 @@ loop-again c =
     let r = c .before .before .before in
     let h = head r .loop in
     rw (c .before .side-byte .ensures, c .side-count .ensures)
-    (parts-on (start r .args .codes .now) (marks r) (start r .args .rows) (h .row) (h .sides) (h .counts) (h .rest) (h .inv) (test r) (r .before .before .label-number .result) (r .marked-side .result)
-    (r .before .before .label-number .ensures) (side-is r))
+    (parts-on (start r .args .codes .now) (marks r) (start r .args .rows) (h .row) (h .sides) (h .counts) (h .rest) (h .inv) (test r) (r .before .before .wide-byte .result) (r .marked-side .result)
+    (r .before .before .wide-byte .ensures) (side-is r))
 
 array-copy-out-own : tie.Need-array-copy-out-own Inv-loop μ-loop
 array-copy-out-own c = search needs
@@ -189,8 +189,8 @@ part-rows-spec =
     Inv-loop
     μ-loop
     loop-holds
-    shared-slice-read-label-number
-    label-number-requires
+    shared-slice-read-wide-byte
+    wide-byte-requires
     mul-marked-side
     shared-slice-read-marked-side
     marked-side-requires

@@ -20,11 +20,11 @@ mul-cells c =
     let few : columns ≤ 16 = search needs in
     record { fits = omega arith }
 
-upto-requires : tie.Need-upto-requires
-upto-requires c κs = search needs
+smaller-requires : tie.Need-smaller-requires
+smaller-requires c κs = search needs
 
 returns-3 : tie.Need-returns-3
 returns-3 c = search needs
 
 pub cells-of-spec : {M : Type 1} → statement M
-cells-of-spec = tie.close (tie.spec returns returns-2 mul-cells upto-requires returns-3)
+cells-of-spec = tie.close (tie.spec returns returns-2 mul-cells smaller-requires returns-3)

@@ -5,11 +5,11 @@ use borrow.Author.Needs.{needs}
 use Rattle.replay.proofs.judged.find.Statement.{statement}
 use Rattle.replay.proofs.judged.find.Tie as tie
 
-upto-requires : tie.Need-upto-requires
-upto-requires c κs = search needs
+smaller-requires : tie.Need-smaller-requires
+smaller-requires c κs = search needs
 
-upto-requires-2 : tie.Need-upto-requires-2
-upto-requires-2 c κs = search needs
+smaller-requires-2 : tie.Need-smaller-requires-2
+smaller-requires-2 c κs = search needs
 
 array-borrow-prefix-order : tie.Need-array-borrow-prefix-order
 array-borrow-prefix-order c = search needs
@@ -42,8 +42,8 @@ pub find-spec : {M : Type 1} → statement M
 find-spec =
     tie.close
     (tie.spec
-    upto-requires
-    upto-requires-2
+    smaller-requires
+    smaller-requires-2
     array-borrow-prefix-order
     slice-aggregate-search
     array-borrow-prefix-cuts

@@ -8,8 +8,8 @@ use Rattle.replay.proofs.judged.judge_read.Tie as tie
 cells-of-requires : tie.Need-cells-of-requires
 cells-of-requires c κs = search needs
 
-upto-requires : tie.Need-upto-requires
-upto-requires c κs = search needs
+smaller-requires : tie.Need-smaller-requires
+smaller-requires c κs = search needs
 
 slice-aggregate-judge-sheet : tie.Need-slice-aggregate-judge-sheet
 slice-aggregate-judge-sheet c = simp length-take (omega arith)
@@ -28,7 +28,7 @@ judge-read-spec =
     tie.close
     (tie.spec
     cells-of-requires
-    upto-requires
+    smaller-requires
     slice-aggregate-judge-sheet
     slice-aggregate-judge-sheet-2
     judge-sheet-requires
