@@ -66,15 +66,21 @@ enum Lie {
     Ascending,
     Descending,
     Equal,
-    TwoValues,
+    /// So many values, drawn.
+    Values(usize),
+    /// Every other row drawn, the rest with one value.
+    HalfEqual,
 }
 
-const LIES: [(Lie, &str); 5] = [
+const LIES: [(Lie, &str); 8] = [
     (Lie::Random, "random"),
     (Lie::Ascending, "ascending"),
     (Lie::Descending, "descending"),
     (Lie::Equal, "all equal"),
-    (Lie::TwoValues, "two values"),
+    (Lie::Values(2), "2 values"),
+    (Lie::Values(8), "8 values"),
+    (Lie::Values(64), "64 values"),
+    (Lie::HalfEqual, "half equal"),
 ];
 const PREPARED_SHAPES: [(usize, usize); 3] = [(MOST_ROWS, MOST_COLUMNS), (1_024, 4), (64, 4)];
 
@@ -85,7 +91,9 @@ fn laid(lie: Lie, rows: usize, columns: usize, seed: u64) -> Sheet {
         Lie::Ascending => row as f64,
         Lie::Descending => (rows - row) as f64,
         Lie::Equal => 1.0,
-        Lie::TwoValues => draw.below(2) as f64,
+        Lie::Values(count) => draw.below(count) as f64,
+        Lie::HalfEqual if row % 2 == 0 => 0.5,
+        Lie::HalfEqual => draw.next() as f64 / u64::MAX as f64,
     };
     let values = (0..rows * columns).map(|index| value(index % rows)).collect();
     let numbers = Numbers { rows, columns, labels: 1, ..Numbers::default() };
