@@ -2,11 +2,12 @@
 use mathlib.Core.Path.{_≡_, refl, ap, ap₂}
 use Prim.Native.Nat.{ℕ, zero, suc, _+_, _≤_, _<_}
 use native.Mathlib.Omega.{arith}
-use mathlib.Core.Bool.{Bool, not, _&&_}
+use native.Mathlib.Numerals.{add-one}
+use mathlib.Core.Bool.{Bool, true, false, not, _&&_}
 use mathlib.Core.List.{List, [], _∷_, _++_}
 use lib.ListN.{length, getD, take}
 use lib.Dec.{T}
-use Rattle.basics.specs.Choice.{bit}
+use Rattle.basics.specs.Choice.{pick, bit}
 use Rattle.basics.specs.Lists.{All, Any, here, there, total, tally, those, table}
 use Rattle.basics.proofs.Choice.{by-test, bit-true, bit-false, bit-le, bit-and-true, bit-and-false}
 
@@ -54,6 +55,18 @@ length-table f (suc n) = ap suc (length-table (λ k. f (suc k)) n)
 pub table-next {ℓ} : {A : Type ℓ} (f : ℕ → A) (n : ℕ) → table f (suc n) ≡ table f n ++ (f n ∷ [])
 table-next f zero = refl
 table-next f (suc n) = ap (λ l. f 0 ∷ l) (table-next (λ k. f (suc k)) n)
+
+pub table-more {ℓ} : {A : Type ℓ} (f : ℕ → A) (n : ℕ) → table f (n + 1) ≡ table f n ++ (f n ∷ [])
+table-more f n = rw add-one (table-next f n)
+
+-- a table up to its entry number n, that entry, and the rest
+pub table-split {ℓ} : {A : Type ℓ} (f : ℕ → A) (n m : ℕ) → n < m → (rest : List A) × (table f m ≡ table f n ++ (f n ∷ rest))
+table-split f zero zero h = absurd (omega arith)
+table-split f zero (suc m) h = (table (λ k. f (suc k)) m, refl)
+table-split f (suc n) zero h = absurd (omega arith)
+table-split f (suc n) (suc m) h =
+    let w = table-split (λ k. f (suc k)) n m (omega arith) in
+    (w .0, ap (λ l. f 0 ∷ l) (w .1))
 
 -- entries that agree
 pub table-same {ℓ} : {A : Type ℓ} (f g : ℕ → A) (n : ℕ) → ((k : ℕ) → k < n → f k ≡ g k) → table f n ≡ table g n
@@ -123,3 +136,12 @@ pub all-those {ℓ} : {A : Type ℓ} (P : A → Type 0) (p : A → Bool) (xs : L
 all-those P p [] h = tt
 all-those P p (x ∷ xs) h =
     by-test (All P) (p x) (λ _. (h .0, all-those P p xs (h .1))) (λ _. all-those P p xs (h .1))
+
+after {ℓ} : {A : Type ℓ} (b : Bool) (x : A) (r q w : List A) → r ≡ q ++ w → pick b (x ∷ r) r ≡ pick b (x ∷ q) q ++ w
+unfolding pick
+after true x r q w e = ap (λ l. x ∷ l) e
+after false x r q w e = e
+
+pub those-append {ℓ} : {A : Type ℓ} (p : A → Bool) (xs ys : List A) → those p (xs ++ ys) ≡ those p xs ++ those p ys
+those-append p [] ys = refl
+those-append p (x ∷ xs) ys = after (p x) x (those p (xs ++ ys)) (those p xs) (those p ys) (those-append p xs ys)

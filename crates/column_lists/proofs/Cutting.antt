@@ -4,50 +4,20 @@ use Prim.Native.Nat.{ℕ, zero, suc, _+_, _-_, _≤_, _<_}
 use native.Mathlib.Omega.{arith}
 use native.Mathlib.Numerals.{add-one}
 use mathlib.Core.Bool.{Bool, true, false, not, _&&_}
-use mathlib.Core.List.{List, [], _∷_, _++_, append-assoc, append-nil}
+use mathlib.Core.List.{List, [], _∷_, _++_, append-assoc}
 use lib.ListN.{length, getD, take, drop, set, replicate, length-append, length-set}
 use lib.Seq.{drop-cons, set-at, take-at}
 use lib.Dec.{T, leb·zero, leb·suc-suc}
 use lib.Ieee.{Float, nan, lt}
 use borrow.Rule.Slice.PartMut.{putMid, midOf}
-use Rattle.basics.specs.Choice.{pick}
 use Rattle.basics.specs.Lists.{those}
-use Rattle.basics.proofs.Choice.{by-test, pick-true, pick-false}
+use Rattle.basics.proofs.Choice.{pick-false}
 use Rattle.basics.proofs.Lists.{all-at}
 use Rattle.row_sort.specs.Sorting.{rowsFrom}
 use Rattle.column_lists.specs.Lists.{isCut, cutsAlong, padded}
 use Rattle.column_lists.specs.Steps.{Ordering}
-use Rattle.row_sort.proofs.Rows.{rows-append}
+use Rattle.row_sort.proofs.Rows.{one-row, those-more, those-same}
 use Rattle.row_sort.proofs.Parts.{put-tail, length-tail}
-
-pub those-append : (p : ℕ → Bool) (xs ys : List ℕ) → those p (xs ++ ys) ≡ those p xs ++ those p ys
-those-append p [] ys = refl
-those-append p (x ∷ xs) ys =
-    ap (λ (l : List ℕ). pick (p x) (x ∷ l) l) (those-append p xs ys)
-    ∙ by-test (λ (l : List ℕ). pick (p x) (x ∷ (those p xs ++ those p ys)) (those p xs ++ those p ys) ≡ l ++ those p ys) (p x)
-    (λ t. pick-true (p x) (x ∷ (those p xs ++ those p ys)) (those p xs ++ those p ys) t)
-    (λ t. pick-false (p x) (x ∷ (those p xs ++ those p ys)) (those p xs ++ those p ys) t)
-
--- the last of the rows
-one-row : (n : ℕ) → rowsFrom n 1 ≡ n ∷ []
-unfolding rowsFrom
-one-row n = refl
-
-rows-last : (n : ℕ) → rowsFrom 0 (n + 1) ≡ rowsFrom 0 n ++ (n ∷ [])
-rows-last n = sym (rows-append 0 n 1) ∙ ap (λ (l : List ℕ). rowsFrom 0 n ++ l) (ap (λ (m : ℕ). rowsFrom m 1) (none n) ∙ one-row n)
-  where
-    none : (n : ℕ) → 0 + n ≡ n
-    none n = omega arith
-
-module _ (p : ℕ → Bool) (n : ℕ) where
-  pub those-more : T (p n) → those p (rowsFrom 0 (n + 1)) ≡ those p (rowsFrom 0 n) ++ (n ∷ [])
-  those-more t =
-      ap (those p) (rows-last n) ∙ those-append p (rowsFrom 0 n) (n ∷ []) ∙ ap (λ (l : List ℕ). those p (rowsFrom 0 n) ++ l) (pick-true (p n) (n ∷ []) [] t)
-
-  pub those-same : T (not (p n)) → those p (rowsFrom 0 (n + 1)) ≡ those p (rowsFrom 0 n)
-  those-same t =
-      ap (those p) (rows-last n) ∙ those-append p (rowsFrom 0 n) (n ∷ [])
-      ∙ ap (λ (l : List ℕ). those p (rowsFrom 0 n) ++ l) (pick-false (p n) (n ∷ []) [] t) ∙ append-nil (those p (rowsFrom 0 n))
 
 module _ (column : List Float) (order : List ℕ) where
   -- the first place is no cut; another one is as its test says

@@ -9,10 +9,10 @@ use lib.Seq.{getD-at}
 use lib.Dec.{T, T-not, ltb, eqb, lt→ltb, ltb→lt, eqb→eq, eqb-refl}
 use Rattle.basics.specs.Lists.{those, table}
 use Rattle.basics.proofs.Choice.{pick-true, pick-false, and-left, and-right, and-both, same-bool}
-use Rattle.basics.proofs.Lists.{getD-table, length-table}
+use Rattle.basics.proofs.Lists.{getD-table, length-table, table-more, table-split, those-append}
 use Rattle.sheet.specs.Sheet.{Sheet, isCut, countOf, placeOf, placesOf}
 use Rattle.sheet.specs.Check.{cutsOf, same}
-use Rattle.sheet.proofs.Lists.{table-more, table-split, those-append, same-refl, same-yes, same-no}
+use Rattle.sheet.proofs.Lists.{same-refl, same-yes, same-no}
 use Rattle.sheet.proofs.Values.{cut-first}
 use Rattle.sheet.proofs.CutList.{cutsTo, cuts-skip, cuts-take}
 

@@ -1,6 +1,7 @@
-// The larger and the smaller of two numbers, their difference not below 0, and narrow numbers as wide as an index.
+// The larger and the smaller of two numbers, their difference not below 0, a test as a number, and narrow numbers as wide as an index.
 ghost use mathlib.Core.Path.{_≡_};
 ghost use Prim.Native.Nat.{_-_, _<_, _^_, min, max};
+ghost use Rattle.basics.specs.Choice.{bit};
 
 pub fn larger(a: usize, b: usize) -> usize
     ensures { λ r. ⌜ r ≡ max a b ⌝ }
@@ -18,6 +19,12 @@ pub fn below(a: usize, b: usize) -> usize
     ensures { λ r. ⌜ r ≡ a - b ⌝ }
 {
     if b < a { a - b } else { 0 }
+}
+
+pub fn one_if(test: bool) -> usize
+    ensures { λ r. ⌜ r ≡ bit test ⌝ }
+{
+    if test { 1 } else { 0 }
 }
 
 // A label code or a side's mark.

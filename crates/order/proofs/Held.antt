@@ -8,7 +8,7 @@ use mathlib.Core.Bool.{Bool, _&&_}
 use lib.IntN.{ℤ, pos, negsuc}
 use lib.Dec.{T, leb, ltb, eqb, leb→le, ltb→lt}
 use lib.Pow.{pow-add, pow-pos, pow-mono, pow-lt, shl-lt}
-use lib.Ieee.{Float, nan, inf, fin, Format, prec, emax, low, up, down, lt, eq, le, fits}
+use lib.Ieee.{Float, nan, inf, fin, Format, prec, emax, low, up, down, lt, eq, fits}
 use lib.Ieee.Digits.{back}
 use lib.Ieee.Fits.{and-l, and-r, down-pos, reach}
 use lib.Ieee.Exact.{HasValue}

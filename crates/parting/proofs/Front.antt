@@ -7,7 +7,7 @@ use mathlib.Core.Bool.{not}
 use mathlib.Core.List.{List}
 use lib.ListN.{length}
 use lib.Dec.{T, not-T, leb, ltb, le→leb, lt→ltb}
-use lib.Ieee.{Float, nan, lt, le}
+use lib.Ieee.{Float, nan, le}
 use Rattle.basics.proofs.Choice.{pick-true, reach}
 use Rattle.basics.proofs.Lists.{tally-front}
 use Rattle.order.specs.Order.{comparable, key}

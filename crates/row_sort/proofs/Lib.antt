@@ -9,3 +9,4 @@ pub mod Inserting
 pub mod Rows
 pub mod Halving
 pub mod Running
+pub mod ByParts

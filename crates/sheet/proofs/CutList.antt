@@ -6,8 +6,8 @@ use mathlib.Core.List.{List, [], _∷_, _++_}
 use lib.Dec.{T}
 use Rattle.basics.specs.Lists.{those, table}
 use Rattle.basics.proofs.Choice.{pick-true, pick-false}
+use Rattle.basics.proofs.Lists.{table-more, those-append}
 use Rattle.sheet.specs.Sheet.{Sheet, isCut}
-use Rattle.sheet.proofs.Lists.{table-more, those-append}
 
 module _ (s : Sheet) (c : ℕ) where
   -- the cuts before place i

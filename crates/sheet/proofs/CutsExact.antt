@@ -12,11 +12,10 @@ use lib.Dec.{T, T-not, leb, leb→le}
 use lib.Ieee.{lt}
 use Rattle.basics.specs.Lists.{table}
 use Rattle.basics.proofs.Choice.{decide, order, reach, and-left}
-use Rattle.basics.proofs.Lists.{getD-table, length-table}
+use Rattle.basics.proofs.Lists.{getD-table, length-table, table-more}
 use Rattle.sheet.specs.Sheet.{Sheet, valueAt, isCut, countOf, placeOf, placesOf}
 use Rattle.sheet.specs.Sound.{Cuts}
 use Rattle.sheet.specs.Check.{cutsOf}
-use Rattle.sheet.proofs.Lists.{table-more}
 use Rattle.sheet.proofs.Values.{cut-first}
 use Rattle.sheet.proofs.CutList.{cutsTo, cuts-skip, cuts-take}
 

@@ -4,7 +4,7 @@ use Prim.Native.Nat.{ℕ, suc, _+_, _-_, _*_, _^_, _≤_, _<_}
 use native.Mathlib.Nat.{le-refl, le-trans, le-of-eq, le-of-lt, lt-of-le-of-lt, one-mul, pow-succ'}
 use native.Mathlib.Omega.{arith}
 use mathlib.Core.Bool.{Bool, true, false, _&&_, cond}
-use lib.Dec.{T, leb, ltb, leb→le, le→leb, ltb→lt, lit<, lit≤}
+use lib.Dec.{T, ltb, leb→le, le→leb, ltb→lt, lit<, lit≤}
 use lib.Pow.{pow-pos, pow-lt}
 use lib.Ieee.{Float, nan, inf, fin, Format, binary64, prec, emax, low, below, add, div, lt, le}
 use lib.Ieee.Fits.{and-l, and-r, two, two-le-pos}

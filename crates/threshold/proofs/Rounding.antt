@@ -5,7 +5,7 @@ use Prim.Native.Nat.{ℕ, suc, _+_, _*_, _^_, _≤_, _<_}
 use native.Mathlib.Nat.{le-trans, le-of-eq, mul-assoc, mul-comm, mul-left-comm, mul-right-comm, mul-le-mul-right, eq-of-mul-eq-mul-right, mul-pos, pow-succ'}
 use native.Mathlib.Omega.{arith}
 use mathlib.Core.Bool.{Bool, true, false, cond, true≢false}
-use lib.Dec.{T, leb, ltb, leb→le}
+use lib.Dec.{T, ltb, leb→le}
 use lib.Pow.{pow-pos}
 use lib.Ieee.{Float, nan, inf, fin, Format, prec, low, up, down, odd, units, round, le}
 use lib.Ieee.Fits.{down-pos, round-is}
