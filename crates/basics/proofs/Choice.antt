@@ -146,6 +146,12 @@ bit-and-false true b t = absurd t
 bit-and-false false b t = refl
 
 -- a test, by another one
+pub bit-halves : (a b : Bool) → bit b ≡ bit (a && b) + bit (not a && b)
+bit-halves true true = refl
+bit-halves true false = refl
+bit-halves false true = refl
+bit-halves false false = refl
+
 pub bit-parts : (a b : Bool) → bit a ≡ bit (a && b) + bit (a && not b)
 bit-parts true true = refl
 bit-parts true false = refl

@@ -1,15 +1,16 @@
 -- Laws of members, sums and counts. Assumes nothing.
-use mathlib.Core.Path.{_≡_, refl, ap, ap₂}
+use mathlib.Core.Path.{_≡_, refl, ap, ap₂, _∙_}
 use Prim.Native.Nat.{ℕ, zero, suc, _+_, _≤_, _<_}
 use native.Mathlib.Omega.{arith}
 use native.Mathlib.Numerals.{add-one}
 use mathlib.Core.Bool.{Bool, true, false, not, _&&_}
 use mathlib.Core.List.{List, [], _∷_, _++_}
-use lib.ListN.{length, getD, take}
+use lib.ListN.{length, getD, take, drop}
+use lib.Seq.{take-suc}
 use lib.Dec.{T}
 use Rattle.basics.specs.Choice.{pick, bit}
 use Rattle.basics.specs.Lists.{All, Any, here, there, total, tally, those, table}
-use Rattle.basics.proofs.Choice.{by-test, bit-true, bit-false, bit-le, bit-and-true, bit-and-false}
+use Rattle.basics.proofs.Choice.{by-test, bit-true, bit-false, bit-le, bit-and-true, bit-and-false, bit-halves}
 
 -- ---- every member, some member
 
@@ -25,6 +26,11 @@ pub all-at : (P : ℕ → Type 0) (xs : List ℕ) (i : ℕ) → All P xs → i <
 all-at P [] i h l = absurd (omega arith)
 all-at P (x ∷ xs) zero h l = h .0
 all-at P (x ∷ xs) (suc i) h l = all-at P xs i (h .1) (omega arith)
+
+pub all-drop : (P : ℕ → Type 0) (xs : List ℕ) (i : ℕ) → All P xs → All P (drop i xs)
+all-drop P xs zero h = h
+all-drop P [] (suc i) h = tt
+all-drop P (x ∷ xs) (suc i) h = all-drop P xs i (h .1)
 
 pub any-left {ℓ} : {A : Type ℓ} (P : A → Type 0) {xs : List A} (ys : List A) → Any P xs → Any P (xs ++ ys)
 any-left P ys (here h) = here h
@@ -145,3 +151,24 @@ after false x r q w e = e
 pub those-append {ℓ} : {A : Type ℓ} (p : A → Bool) (xs ys : List A) → those p (xs ++ ys) ≡ those p xs ++ those p ys
 those-append p [] ys = refl
 those-append p (x ∷ xs) ys = after (p x) x (those p (xs ++ ys)) (those p xs) (those p ys) (those-append p xs ys)
+
+-- one member more of a list's front
+pub those-next : (p : ℕ → Bool) (xs : List ℕ) (i : ℕ) → i < length xs
+    → those p (take (i + 1) xs) ≡ those p (take i xs) ++ those p (getD xs i 0 ∷ [])
+those-next p xs i h =
+    ap (λ (n : ℕ). those p (take n xs)) (add-one i) ∙ ap (those p) (take-suc xs i 0 h) ∙ those-append p (take i xs) (getD xs i 0 ∷ [])
+
+-- what holds of the members that pass holds of all those
+pub all-passed : (P : ℕ → Type 0) (p : ℕ → Bool) (xs : List ℕ) → All (λ r. T (p r) → P r) xs → All P (those p xs)
+all-passed P p [] h = tt
+all-passed P p (x ∷ xs) h = by-test (All P) (p x) (λ t. (h .0 t, all-passed P p xs (h .1))) (λ _. all-passed P p xs (h .1))
+
+-- those that pass and the others are counted apart
+pub tally-halves : (p q : ℕ → Bool) (xs : List ℕ) → tally p xs ≡ tally p (those q xs) + tally p (those (λ x. not (q x)) xs)
+tally-halves p q xs =
+    omega (
+      arith,
+      tally-those q p xs,
+      tally-those (λ x. not (q x)) p xs,
+      tally-parts (λ x. q x && p x) (λ x. not (q x) && p x) p (λ x. bit-halves (q x) (p x)) xs,
+    )
