@@ -37,7 +37,6 @@ extern "C" {
 #define FINDER_PREPARE_WORDS 3
 #define FINDER_CHECK_WORDS 3
 #define FINDER_SEARCH_WORDS 19
-#define FINDER_SCAN_WORDS 15
 #define FINDER_SIDE_WORDS 7
 
 /* word 0 of an answer */
@@ -46,7 +45,6 @@ extern "C" {
 #define FINDER_ACCEPTED 1
 #define FINDER_KEPT 1
 #define FINDER_FOUND 2
-#define FINDER_SCANNED 1
 
 /* word 0 of a side */
 #define FINDER_LEAF 0
@@ -55,8 +53,6 @@ extern "C" {
 /* where the sides begin in an answer */
 #define FINDER_SEARCH_LEFT 5
 #define FINDER_SEARCH_RIGHT 12
-#define FINDER_SCAN_LEFT 1
-#define FINDER_SCAN_RIGHT 8
 
 /*
  * The preparer: sorts each column's rows by value, equal ones by row number, and lists its cuts; unused cut places become 0.
@@ -96,21 +92,6 @@ void finder_check(
  * A threshold's bits are those of a double. A row whose value is at most the threshold goes left.
  */
 void finder_search(
-    const uint32_t *numbers, size_t numbers_length,
-    const double *values, size_t values_length,
-    const uint8_t *labels, size_t labels_length,
-    const uint16_t *order, size_t order_length,
-    const uint16_t *cuts, size_t cuts_length,
-    const uint16_t *counts, size_t counts_length,
-    uint32_t *scratch, size_t scratch_length,
-    uint64_t *answer, size_t answer_length);
-
-/*
- * The two sides of one cut, found that many times over (0 counts as 1), so that it can be timed.
- * Numbers: as finder_search, then column, the cut's number in its column's list, how often.
- * Answer: FINDER_SCANNED, the left side's words, the right side's words; or turned back by 1 to 9, or by 0 if there is no such column or cut.
- */
-void finder_scan(
     const uint32_t *numbers, size_t numbers_length,
     const double *values, size_t values_length,
     const uint8_t *labels, size_t labels_length,

@@ -3,9 +3,8 @@ use crate::answer::Answer;
 use crate::damage;
 use crate::draw::Draw;
 use crate::model::marks::{Marks, ALL};
-use crate::model::{self, check, judge, least, prepare, scan};
+use crate::model::{self, check, judge, least, prepare};
 use crate::original::{self, Ids};
-use crate::port::Cut;
 use crate::sheet::{Sheet, SCRATCH_PER_ROW};
 use crate::{listing, port, random, small};
 use std::time::{Duration, Instant};
@@ -40,7 +39,6 @@ fn compared(sheet: &Sheet, marks: &mut Marks) -> Result<Answer, String> {
     }
     checked(sheet, scratch)?;
     prepared(sheet)?;
-    scanned(sheet, scratch)?;
     own_errors(sheet, &original)?;
     if sheet.numbers.rows * sheet.numbers.columns <= MOST_LEAST {
         near_least(sheet, &original)?;
@@ -62,24 +60,6 @@ fn prepared(sheet: &Sheet) -> Result<(), String> {
         wanted
     });
     same_turn("preparer", turned, port::prepare(sheet, wanted.as_ref()))
-}
-
-/// The port's scan of one cut against the model's: a column or a cut that is not there among them, and up to two scans in a row.
-fn scanned(sheet: &Sheet, scratch: usize) -> Result<(), String> {
-    let n = sheet.numbers;
-    let column = n.rows % (n.columns + 1);
-    let listed = sheet.counts.get(column).map_or(0, |&count| count as usize);
-    let cut = Cut { column, number: (n.rows + n.error + n.gap) % (listed + 1), times: n.rows as u32 % 3 };
-    let Some(port) = port::scan(sheet, cut, scratch) else { return Ok(()) };
-    let model = match check::turned_back(sheet, scratch) {
-        Some(turned) => Err(turned),
-        None => scan::cut_sides(sheet, column, cut.number, &mut Marks::default()).ok_or((0, 0)),
-    };
-    let port = port?;
-    match model == port {
-        true => Ok(()),
-        false => Err(format!("the port's scan of cut {} of column {column} says {port:?}, the model's {model:?}", cut.number)),
-    }
 }
 
 fn unprepared(sheet: &Sheet) -> Option<(u8, usize)> {
@@ -130,7 +110,6 @@ fn own_errors(sheet: &Sheet, answer: &Answer) -> Result<(), String> {
 fn compared_damaged(sheet: &Sheet, scratch: usize) -> Result<Answer, String> {
     checked(sheet, scratch)?;
     prepared(sheet)?;
-    scanned(sheet, scratch)?;
     let model = model::search(sheet, scratch, &mut Marks::default());
     if !matches!(model, Answer::TurnedBack { .. }) {
         same("model", &original::search(sheet, Ids::ByEquality).ok_or("the original panics")?, &model)?;

@@ -21,7 +21,7 @@ mod table;
 use std::process::ExitCode;
 
 const USAGE: &str = "run [--sheets N] [--seed S] [--tiny] | ask [--model] [--merged] [--mistakes] [--least] FILE | bytes FILE
-  | table | merging | record PROGRAM SEARCHES | speed [search|scan|prepare] [--runs K] [--seed S]";
+  | table | merging | record PROGRAM SEARCHES | speed [search|prepare] [--runs K] [--seed S]";
 
 /// The number after a flag.
 fn number(args: &[String], flag: &str, otherwise: u64) -> Result<u64, String> {
@@ -44,7 +44,6 @@ fn speed(args: &[String]) -> Result<bool, String> {
     let runs = number(args, "--runs", speed::DEFAULT_RUNS)?;
     let seed = number(args, "--seed", compare::DEFAULT_SEED)?;
     let work = match args.first().map(String::as_str) {
-        Some("scan") => speed::Work::Scan,
         Some("prepare") => speed::Work::Prepare,
         _ => speed::Work::Search,
     };

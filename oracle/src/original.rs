@@ -3,7 +3,6 @@
 use crate::answer::{Answer, Side, Tree};
 use crate::sheet::Sheet;
 use contree::algorithms::depth2::ConTreeDepth2;
-use contree::algorithms::shared::threshold_between;
 use contree::caching::Entry;
 use contree::common::{PointSelector, SearchConfig, Statistics};
 use contree::data::view::DataView;
@@ -103,18 +102,6 @@ fn side(tree: &contree::tree::Tree, node: usize) -> Side {
         labels: [label(left), label(right)],
         errors: [tree.node_error(left), tree.node_error(right)],
     }
-}
-
-/// The original's scan of both sides of the middle cut of column 0, for timing: the sum of the two errors.
-pub fn scan(sheet: &Sheet, view: &DataView<'_>) -> usize {
-    let cuts = view.get_possible_split_indices(0);
-    let middle = cuts.len() / 2;
-    let before = if middle == 0 { 0 } else { cuts[middle - 1] };
-    let threshold = threshold_between(sheet.value_at(0, before), sheet.value_at(0, cuts[middle]));
-    let mut sides = [contree::tree::Tree::empty_tree(1), contree::tree::Tree::empty_tree(1)];
-    let [left, right] = &mut sides;
-    ConTreeDepth2.get_leaves_score(view, 0, cuts[middle], threshold, left, right, sheet.numbers.error, sheet.numbers.support);
-    sides[0].root_error() + sides[1].root_error()
 }
 
 /// Seconds of the original's own preparation: columns sorted, values indexed, cuts found. Its points are laid out before the clock starts.

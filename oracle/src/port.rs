@@ -1,28 +1,16 @@
 //! The port's seam. Each of the proved library's functions is linked by a feature of its name (README.md, "The port's seam"); where one is not there,
 //! there is nothing to compare, and every caller says so.
-use crate::answer::{Answer, Side};
+use crate::answer::Answer;
 use crate::sheet::Sheet;
 use crate::speed::Work;
 
 // what only one of the functions needs stands unused where that one is not linked
-#[cfg(any(feature = "search", feature = "check", feature = "prepare", feature = "scan"))]
+#[cfg(any(feature = "search", feature = "check", feature = "prepare"))]
 #[allow(dead_code)]
 mod linked;
 
 /// A reason's number and place, if a call turns back; or what the port did to lent words that it owed otherwise.
 pub type Turned = Result<Option<(u8, usize)>, String>;
-
-/// A cut to scan, by column and number, and how often.
-#[derive(Clone, Copy)]
-#[cfg_attr(not(feature = "scan"), allow(dead_code))]
-pub struct Cut {
-    pub column: usize,
-    pub number: usize,
-    pub times: u32,
-}
-
-/// The two sides of a cut; or a reason's number and place, with number 0 for a cut that is not there.
-pub type Scanned = Result<[Side; 2], (u8, usize)>;
 
 /// The port's answer with a scratch of so many words. None where it is not linked.
 #[cfg(feature = "search")]
@@ -57,23 +45,11 @@ pub fn prepare(_sheet: &Sheet, _wanted: Option<&Sheet>) -> Option<Turned> {
     None
 }
 
-/// The port's scan of one cut with a scratch of so many words.
-#[cfg(feature = "scan")]
-pub fn scan(sheet: &Sheet, cut: Cut, scratch: usize) -> Option<Result<Scanned, String>> {
-    Some(linked::scan(sheet, cut, scratch))
-}
-
-#[cfg(not(feature = "scan"))]
-pub fn scan(_sheet: &Sheet, _cut: Cut, _scratch: usize) -> Option<Result<Scanned, String>> {
-    None
-}
-
 pub fn compared() -> String {
     let functions = [
         ("search", cfg!(feature = "search")),
         ("check", cfg!(feature = "check")),
         ("prepare", cfg!(feature = "prepare")),
-        ("scan", cfg!(feature = "scan")),
     ];
     let linked: Vec<&str> = functions.iter().filter(|(_, there)| *there).map(|(name, _)| *name).collect();
     match linked.is_empty() {
@@ -87,7 +63,6 @@ pub fn timed(work: Work, sheet: &Sheet) -> Option<Box<dyn FnMut() -> f64 + '_>> 
     match work {
         Work::Search => timed_search(sheet),
         Work::Prepare => timed_prepare(sheet),
-        Work::Scan => timed_scan(sheet),
     }
 }
 
@@ -110,19 +85,5 @@ fn timed_prepare(sheet: &Sheet) -> Option<Box<dyn FnMut() -> f64 + '_>> {
 
 #[cfg(not(feature = "prepare"))]
 fn timed_prepare(_sheet: &Sheet) -> Option<Box<dyn FnMut() -> f64 + '_>> {
-    None
-}
-
-/// The middle cut of column 0: seconds a scan, of many in one call.
-#[cfg(feature = "scan")]
-fn timed_scan(sheet: &Sheet) -> Option<Box<dyn FnMut() -> f64 + '_>> {
-    let mut scratch = vec![0; crate::sheet::SCRATCH_PER_ROW * sheet.numbers.rows];
-    let times = crate::speed::SCANS;
-    let cut = Cut { column: 0, number: sheet.counts[0] as usize / 2, times };
-    Some(Box::new(move || crate::speed::seconds(|| linked::call_scan(sheet, cut, &mut scratch)) / f64::from(times)))
-}
-
-#[cfg(not(feature = "scan"))]
-fn timed_scan(_sheet: &Sheet) -> Option<Box<dyn FnMut() -> f64 + '_>> {
     None
 }

@@ -21,14 +21,11 @@ const FEWEST_DISTINCT: usize = 8;
 /// One label in so many of a structured sheet is drawn freely.
 const NOISE: usize = 20;
 pub const DEFAULT_RUNS: u64 = 5;
-/// Scans that are timed in a row: the port's call looks at its whole input once, and that is to have little share.
-pub const SCANS: u32 = 100;
 
 /// What is timed.
 #[derive(Clone, Copy, PartialEq, Eq)]
 pub enum Work {
     Search,
-    Scan,
     Prepare,
 }
 
@@ -176,14 +173,7 @@ fn best(runs: u64, finders: &mut [Timed<'_>]) -> Vec<f64> {
     least
 }
 
-fn original<'a>(work: Work, sheet: &'a Sheet, view: &'a DataView<'a>) -> Timed<'a> {
-    match work {
-        Work::Scan => Box::new(move || seconds(|| (0..SCANS).map(|_| black_box(original::scan(sheet, view))).sum::<usize>()) / f64::from(SCANS)),
-        _ => Box::new(move || seconds(|| original::fit(sheet, view))),
-    }
-}
-
-fn line(work: Work, shape: &Shape, runs: u64, seed: u64) {
+fn line(shape: &Shape, runs: u64, seed: u64) {
     let sheet = sheet(shape, seed);
     let dataset = original::dataset(&sheet, Ids::ByEquality);
     let view = DataView::root(&dataset, false);
@@ -191,8 +181,8 @@ fn line(work: Work, shape: &Shape, runs: u64, seed: u64) {
         Answer::Kept { tried, .. } | Answer::Found { tried, .. } => tried,
         Answer::TurnedBack { .. } => 0,
     };
-    let mut finders = vec![original(work, &sheet, &view)];
-    finders.extend(port::timed(work, &sheet));
+    let mut finders = vec![Box::new(|| seconds(|| original::fit(&sheet, &view))) as Timed<'_>];
+    finders.extend(port::timed(Work::Search, &sheet));
     let times = best(runs, &mut finders);
     let kind = if shape.structured { "structured" } else { "random" };
     print!("{:>5} {:>7} {:>6} {:>7} {kind:<10} {tried:>6}", shape.rows, shape.columns, shape.labels, shape.support);
@@ -204,17 +194,15 @@ fn line(work: Work, shape: &Shape, runs: u64, seed: u64) {
 }
 
 pub fn table(work: Work, runs: u64, seed: u64) {
-    let name = match work {
-        Work::Search => "search",
-        Work::Scan => "scan of the middle cut of column 0",
-        Work::Prepare => return prepared_table(runs, seed),
-    };
-    println!("{name}: milliseconds, best of {runs}, seed {seed}, {}; {}", std::env::consts::ARCH, port::compared());
+    if work == Work::Prepare {
+        return prepared_table(runs, seed);
+    }
+    println!("search: milliseconds, best of {runs}, seed {seed}, {}; {}", std::env::consts::ARCH, port::compared());
     println!(
         "{:>5} {:>7} {:>6} {:>7} {:<10} {:>6} {:>12} {:>12} {:>6}",
         "rows", "columns", "labels", "support", "kind", "tried", "original", "port", "ratio"
     );
     for shape in shapes() {
-        line(work, &shape, runs, seed);
+        line(&shape, runs, seed);
     }
 }

@@ -1,3 +1,4 @@
 pub mod Choice
 pub mod Lists
 pub mod Walk
+pub mod Wide

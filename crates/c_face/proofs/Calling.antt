@@ -10,7 +10,7 @@ use Rattle.sheet.specs.declared.Checked.{Checked}
 use Rattle.sheet.specs.Sheet.{Sheet}
 use Rattle.sheet.specs.Check.{sheetOf, checkOf, scratchAfter}
 use Rattle.prepare.specs.declared.Prepared.{Prepared}
-use Rattle.prepare.specs.Prepared.{answerOf, PreparedOf}
+use Rattle.prepare.specs.Prepared.{prepareOf, PreparedOf}
 
 pub same-check : {size size′ : Size} {terms terms′ : Terms} (values : List Float) (codes order cuts counts : List ℕ) (words : ℕ)
     → size ≡ size′ → terms ≡ terms′
@@ -26,7 +26,7 @@ same-scratch {r} {r′} {rows} {rows′} scratch e f =
 -- the preparer's outcome, with its answer as the definition gives it
 settled : (rows columns : ℕ) (values : List Float) (order cuts counts : List ℕ) (r : Prepared) (order′ cuts′ counts′ : List ℕ)
     → PreparedOf rows columns values order cuts counts r order′ cuts′ counts′
-    → PreparedOf rows columns values order cuts counts (answerOf rows columns values (length order) (length cuts) (length counts)) order′ cuts′ counts′
+    → PreparedOf rows columns values order cuts counts (prepareOf rows columns values (length order) (length cuts) (length counts)) order′ cuts′ counts′
 settled rows columns values order cuts counts r order′ cuts′ counts′ h =
     subst (λ (x : Prepared). PreparedOf rows columns values order cuts counts x order′ cuts′ counts′) (h .answers) h
 
@@ -41,7 +41,7 @@ same-prepared {rows} {rows′} {columns} {columns′} values order cuts counts r
 pub prepared-by : {rows rows′ columns columns′ : ℕ} (values : List Float) (order cuts counts : List ℕ) (r : Prepared) (order′ cuts′ counts′ : List ℕ)
     → rows ≡ rows′ → columns ≡ columns′
     → PreparedOf rows columns values order cuts counts r order′ cuts′ counts′
-    → PreparedOf rows′ columns′ values order cuts counts (answerOf rows′ columns′ values (length order) (length cuts) (length counts)) order′ cuts′ counts′
+    → PreparedOf rows′ columns′ values order cuts counts (prepareOf rows′ columns′ values (length order) (length cuts) (length counts)) order′ cuts′ counts′
 prepared-by {rows} {rows′} {columns} {columns′} values order cuts counts r order′ cuts′ counts′ e f h =
     settled rows′ columns′ values order cuts counts r order′ cuts′ counts′ (same-prepared values order cuts counts r order′ cuts′ counts′ e f h)
 

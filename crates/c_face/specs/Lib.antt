@@ -1,1 +1,4 @@
 pub mod Face
+pub mod Numbers
+pub mod Told
+pub mod Rule

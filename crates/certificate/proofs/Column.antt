@@ -15,13 +15,13 @@ use Rattle.cuts.specs.declared.Run.{Run}
 use Rattle.cuts.specs.Lookups.{place, Ascending}
 use Rattle.cuts.specs.Feasible.{feasible, feasibleOf, Exactly}
 use Rattle.cuts.proofs.Feasible.{feasible-exactly}
-use Rattle.interval_pruner.specs.Column.{placeOf, leftOf, rightOf}
+use Rattle.interval_pruner.specs.Column.{placeIn, leftError, rightError}
 use Rattle.column_search.specs.Laws.{Feasible, Metric}
 use Rattle.leaves_score.specs.Root.{errorsAt}
 use Rattle.side_laws.specs.Root.{Moved}
 use Rattle.side_laws.proofs.Cuts.{ascends}
 use Rattle.side_laws.proofs.Metric.{moves}
-use Rattle.cut_try.specs.Try.{columnOf}
+use Rattle.column_turns.specs.Try.{searchedColumn}
 
 module _ (s : Sheet) (sound : Sound s) (t : Terms) (c : ℕ) (here : c < s .columns) where
   pub listed : length (placesOf s c) ≡ countOf s c
@@ -45,7 +45,7 @@ module _ (s : Sheet) (sound : Sound s) (t : Terms) (c : ℕ) (here : c < s .colu
     in-list : (k : ℕ) → k ≤ feasibleOf (placesOf s c) (s .rows) (t .support) .end - 1 → k < countOf s c
     in-list k h = omega (arith, exactly .listed, listed)
 
-    pub feasible-run : Feasible (columnOf s t c) (feasibleOf (placesOf s c) (s .rows) (t .support) .first) (feasibleOf (placesOf s c) (s .rows) (t .support) .end - 1)
+    pub feasible-run : Feasible (searchedColumn s t c) (feasibleOf (placesOf s c) (s .rows) (t .support) .first) (feasibleOf (placesOf s c) (s .rows) (t .support) .end - 1)
     feasible-run =
         record {
           full = omega arith;
@@ -54,8 +54,8 @@ module _ (s : Sheet) (sound : Sound s) (t : Terms) (c : ℕ) (here : c < s .colu
         }
 
     -- with support at most 1 the scan is an evaluator whose errors move with the cut as pruning takes it
-    pub metric : t .support ≤ 1 → Metric (columnOf s t c) (feasibleOf (placesOf s c) (s .rows) (t .support) .first) (feasibleOf (placesOf s c) (s .rows) (t .support) .end - 1)
-    unfolding leftOf rightOf
+    pub metric : t .support ≤ 1 → Metric (searchedColumn s t c) (feasibleOf (placesOf s c) (s .rows) (t .support) .first) (feasibleOf (placesOf s c) (s .rows) (t .support) .end - 1)
+    unfolding leftError rightError
     metric small =
         record {
           ascends = λ i j h g l.

@@ -8,13 +8,13 @@ use Rattle.sheet.specs.Sheet.{Sheet, countOf, placesOf}
 use Rattle.sheet.specs.Sound.{Sound}
 use Rattle.sheet.specs.declared.Terms.{Terms}
 use Rattle.cuts.specs.Feasible.{feasibleOf}
-use Rattle.interval_pruner.specs.Column.{leftOf, rightOf}
+use Rattle.interval_pruner.specs.Column.{leftError, rightError}
 use Rattle.column_search.specs.Search.{State, columnRun}
 use Rattle.column_search.specs.Laws.{Lowered}
 use Rattle.column_search.proofs.Error.{lowers}
 use Rattle.column_search.proofs.Optimal.{optimal}
-use Rattle.cut_try.specs.Try.{columnOf}
-use Rattle.depth2.specs.Search.{Progress, joined, afterColumn, searchColumns, searched}
+use Rattle.column_turns.specs.Try.{searchedColumn}
+use Rattle.depth2.specs.Search.{Progress, withColumn, afterColumn, searchColumns, searched}
 use Rattle.depth2.specs.Laws.{cutError}
 use Rattle.certificate.proofs.Column.{feasible-run, metric, all-feasible}
 
@@ -26,24 +26,24 @@ abbrev endOf : Sheet → Terms → ℕ → ℕ
 endOf s t c = feasibleOf (placesOf s c) (s .rows) (t .support) .end
 
 abbrev runOf : Sheet → Terms → ℕ → ℕ → State
-runOf s t c error = columnRun (columnOf s t c) (t .bound) (firstOf s t c) (endOf s t c - 1) error
+runOf s t c error = columnRun (searchedColumn s t c) (t .bound) (firstOf s t c) (endOf s t c - 1) error
 
 module _ (s : Sheet) (sound : Sound s) (t : Terms) (c : ℕ) (here : c < s .columns) where
-  run-lowered : (error : ℕ) → firstOf s t c < endOf s t c → Lowered (columnOf s t c) (firstOf s t c) (endOf s t c - 1) error (runOf s t c error)
-  run-lowered error h = lowers (columnOf s t c) (t .bound) (firstOf s t c) (endOf s t c - 1) error (feasible-run s sound t c here h)
+  run-lowered : (error : ℕ) → firstOf s t c < endOf s t c → Lowered (searchedColumn s t c) (firstOf s t c) (endOf s t c - 1) error (runOf s t c error)
+  run-lowered error h = lowers (searchedColumn s t c) (t .bound) (firstOf s t c) (endOf s t c - 1) error (feasible-run s sound t c here h)
 
   after-falls : (p : Progress) → afterColumn s t c p .error ≤ p .error
-  unfolding afterColumn joined
+  unfolding afterColumn withColumn
   after-falls p =
       by-ltb (λ (q : Progress). q .error ≤ p .error) (firstOf s t c) (endOf s t c) (λ h. run-lowered (p .error) h .falls) (λ h. omega arith)
 
   after-best : t .support ≤ 1 → (p : Progress) (k : ℕ) → k < countOf s c → min (afterColumn s t c p .error) (t .bound) ≤ cutError s t c k + t .gap
-  unfolding afterColumn joined leftOf rightOf
+  unfolding afterColumn withColumn leftError rightError
   after-best small p k h =
       let f = all-feasible s sound t c here small k h in
       let some : firstOf s t c < endOf s t c = omega (arith, f .0, f .1) in
       by-ltb (λ (q : Progress). min (q .error) (t .bound) ≤ cutError s t c k + t .gap) (firstOf s t c) (endOf s t c)
-      (λ g. optimal (columnOf s t c) (t .bound) (firstOf s t c) (endOf s t c - 1) (p .error) k (feasible-run s sound t c here g) (metric s sound t c here g small) (f .0) (omega (arith, f .1)))
+      (λ g. optimal (searchedColumn s t c) (t .bound) (firstOf s t c) (endOf s t c - 1) (p .error) k (feasible-run s sound t c here g) (metric s sound t c here g small) (f .0) (omega (arith, f .1)))
       (λ g. absurd (omega arith))
 
 module _ (s : Sheet) (sound : Sound s) (t : Terms) where

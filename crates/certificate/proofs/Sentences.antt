@@ -6,7 +6,7 @@ use Prim.Native.Nat.{ℕ, _+_, _≤_, _<_, min}
 use native.Mathlib.Omega.{arith}
 use mathlib.Core.Option.{Option, none, some}
 use Rattle.basics.specs.Choice.{Hit}
-use Rattle.order.proofs.Order.{finite-comparable}
+use Rattle.threshold.proofs.Keys.{finite-comparable}
 use Rattle.sheet.specs.Sheet.{Sheet, countOf}
 use Rattle.sheet.specs.Sound.{Sound}
 use Rattle.sheet.specs.declared.Terms.{Terms}
@@ -17,32 +17,33 @@ use Rattle.sheet.proofs.Accepted.{accepted-sound}
 use Rattle.tree.specs.declared.Tree.{Tree}
 use Rattle.tree.specs.declared.Answer.{Answer}
 use Rattle.tree.specs.Answer.{finalError, ruleOf}
-use Rattle.two_sides.specs.Column.{other}
-use Rattle.leaves_score.specs.Root.{cutThreshold, markOf, sidesAt}
+use Rattle.leaves_score.specs.Column.{other}
+use Rattle.leaves_score.specs.Root.{cutQuestion, markOf, sidesAt}
 use Rattle.side_laws.specs.Told.{Told}
 use Rattle.side_laws.specs.Root.{rootMistakes}
 use Rattle.side_laws.proofs.Sides.{tells}
 use Rattle.side_laws.proofs.Cuts.{at-cuts}
 use Rattle.side_laws.proofs.Root.{root-least, cut-mistakes}
-use Rattle.judge_rows.specs.declared.Judgement.{Judgement}
-use Rattle.judge_rows.specs.Mistakes.{rootLeftward, rootRightward, judgementOf}
-use Rattle.cut_try.specs.Try.{treeAt}
-use Rattle.depth2.specs.Search.{Progress, searched, answerOf, answerAfter, searchOf}
+use Rattle.judge.specs.declared.judge_rows.Judgement.{Judgement}
+use Rattle.judge.specs.Mistakes.{rootLeftward, rootRightward, judgementOf}
+use Rattle.column_turns.specs.Try.{treeAt}
+use Rattle.depth2.specs.Search.{Progress, searched, answerHolding, answerAfter, searchOf}
 use Rattle.depth2.specs.Laws.{cutError, MakesError, Bettered}
 use Rattle.depth2.proofs.Laws.{error-falls}
-use Rattle.cut_try.proofs.Accepted.{accepted-parts}
+use Rattle.column_turns.proofs.Accepted.{accepted-parts}
 use Rattle.certificate.specs.Certificate.{NothingBetter, NeverWorse, AsItSays, TreeTells, Certified}
 use Rattle.certificate.proofs.Progress.{searched-best}
-use Rattle.certificate.proofs.Judging.{Accepts, accepts, proper, tree-sum, left-rows, right-rows, same-sheet, taken, told-wrong}
+use Rattle.judge.proofs.Taking.{Accepts, accepts, same-sheet}
+use Rattle.certificate.proofs.Judging.{proper, tree-sum, left-rows, right-rows, taken, told-wrong}
 
 -- ---- the answer of an accepted call
 
-answer-is : (s : Sheet) (t : Terms) (words : ℕ) → checkOf s t words ≡ Accepted → searchOf s t words ≡ answerOf s t (searched s t) (searched s t .best)
+answer-is : (s : Sheet) (t : Terms) (words : ℕ) → checkOf s t words ≡ Accepted → searchOf s t words ≡ answerHolding s t (searched s t) (searched s t .best)
 unfolding searchOf answerAfter
 answer-is s t words e = ap (answerAfter s t) e
 
-error-is : (s : Sheet) (t : Terms) (p : Progress) (best : Option (ℕ × ℕ)) → finalError (answerOf s t p best) ≡ some (p .error)
-unfolding answerOf treeAt
+error-is : (s : Sheet) (t : Terms) (p : Progress) (best : Option (ℕ × ℕ)) → finalError (answerHolding s t p best) ≡ some (p .error)
+unfolding answerHolding treeAt
 error-is s t p none = refl
 error-is s t p (some cut) = refl
 
@@ -64,12 +65,12 @@ nothing-better s t words doubles e small tree j any =
     let sound : Sound s = accepted-sound s t words doubles e in
     let a : Accepts s tree j = accepts s tree j (any .judged) in
     let r =
-    root-least s sound (t .support) small (tree .column) (a .column) (tree .threshold) (finite-comparable (tree .threshold) (a .threshold) (any .double .root))
+    root-least s sound (t .support) small (tree .question) (a .column) (finite-comparable (tree .question .threshold) (a .threshold) (any .double .root))
     (subst (λ (n : ℕ). 1 ≤ n) (left-rows s tree) (any .left-rows)) (subst (λ (n : ℕ). 1 ≤ n) (right-rows s tree) (any .right-rows))
     (tree .left) (tree .right) (proper s (tree .left) (a .left) (any .double .left)) (proper s (tree .right) (a .right) (any .double .right)) in
-    let m : rootMistakes s (tree .column) (tree .threshold) (tree .left) (tree .right) ≡ j .mistakes = sym (tree-sum s tree) ∙ ap (λ (x : Judgement). x .mistakes) (a .judgement) in
+    let m : rootMistakes s (tree .question) (tree .left) (tree .right) ≡ j .mistakes = sym (tree-sum s tree) ∙ ap (λ (x : Judgement). x .mistakes) (a .judgement) in
     final (λ n. min n (t .bound) ≤ j .mistakes + t .gap) s t words e
-    (omega (arith, m, r .2, searched-best s sound t small (tree .column) (r .0) (a .column) (r .1)))
+    (omega (arith, m, r .2, searched-best s sound t small (tree .question .column) (r .0) (a .column) (r .1)))
 
 -- ---- 2
 
@@ -80,13 +81,13 @@ never-worse s t words doubles e = final (λ n. n ≤ t .error) s t words e (fall
 
 module _ (s : Sheet) (t : Terms) (words : ℕ) (sound : Sound s) (e : checkOf s t words ≡ Accepted) (c k error : ℕ) (here : c < s .columns) (listed : k < countOf s c)
     (is : error ≡ cutError s t c k) where
-  left-told : Told s (t .support) (markOf s c (cutThreshold s c k)) (sidesAt s (t .support) c k .left)
+  left-told : Told s (t .support) (markOf s (cutQuestion s c k)) (sidesAt s (t .support) c k .left)
   unfolding sidesAt
-  left-told = tells s sound (t .support) (markOf s c (cutThreshold s c k)) .left
+  left-told = tells s sound (t .support) (markOf s (cutQuestion s c k)) .left
 
-  right-told : Told s (t .support) (other (markOf s c (cutThreshold s c k))) (sidesAt s (t .support) c k .right)
+  right-told : Told s (t .support) (other (markOf s (cutQuestion s c k))) (sidesAt s (t .support) c k .right)
   unfolding sidesAt
-  right-told = tells s sound (t .support) (markOf s c (cutThreshold s c k)) .right
+  right-told = tells s sound (t .support) (markOf s (cutQuestion s c k)) .right
 
   cut-tells : AsItSays s (treeAt s (t .support) c k error)
   unfolding treeAt markOf judgementOf
@@ -110,10 +111,10 @@ tree-tells s t words doubles e =
     sound = accepted-sound s t words doubles e
 
     go : (best : Option (ℕ × ℕ)) → Hit (MakesError s t (searched s t .error)) best
-        → Hit (λ tree. (tree .error ≡ searched s t .error) × AsItSays s tree) (ruleOf (answerOf s t (searched s t) best))
+        → Hit (λ tree. (tree .error ≡ searched s t .error) × AsItSays s tree) (ruleOf (answerHolding s t (searched s t) best))
     go none n = absurd n
     go (some cut) n =
-        unfold answerOf in
+        unfold answerHolding in
         (unfold treeAt in refl, cut-tells s t words sound e (cut .0) (cut .1) (searched s t .error) (n .0) (n .1) (n .2))
 
 -- ---- of what the search answers

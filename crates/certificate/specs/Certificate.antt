@@ -10,16 +10,18 @@ use Rattle.sheet.specs.declared.Terms.{Terms}
 use Rattle.sheet.specs.declared.Checked.the-variants.{Accepted}
 use Rattle.sheet.specs.Check.{checkOf}
 use Rattle.sheet.specs.Laws.{Doubles}
+use Rattle.tree.specs.declared.Leaf as leaf
 use Rattle.tree.specs.declared.Side.{Side}
 use Rattle.tree.specs.declared.Side.the-variants.{Leaf, Split}
 use Rattle.tree.specs.declared.Tree.{Tree}
 use Rattle.tree.specs.declared.Answer.{Answer}
 use Rattle.tree.specs.Answer.{finalError, ruleOf}
-use Rattle.judge_rows.specs.declared.Wrong.{Wrong}
-use Rattle.judge_rows.specs.declared.Wrong.the-variants.{AtLeaf, AtSplit}
-use Rattle.judge_rows.specs.declared.Judgement.{Judgement}
+use Rattle.judge.specs.declared.judge_rows.Reached.{Reached}
+use Rattle.judge.specs.declared.judge_rows.Wrong.{Wrong}
+use Rattle.judge.specs.declared.judge_rows.Wrong.the-variants.{AtLeaf, AtSplit}
+use Rattle.judge.specs.declared.judge_rows.Judgement.{Judgement}
 use Rattle.judge.specs.declared.Verdict.the-variants.{Judged}
-use Rattle.judge_rows.specs.Mistakes.{rowsAt, rootLeftward, rootRightward}
+use Rattle.judge.specs.Mistakes.{rowsAt, rootLeftward, rootRightward}
 use Rattle.judge.specs.Judge.{judgeOf}
 use Rattle.depth2.specs.Search.{searchOf}
 
@@ -27,11 +29,11 @@ use Rattle.depth2.specs.Search.{searchOf}
 
 -- a threshold is some f64
 abbrev pub SideDouble : Side → Type 0
-SideDouble (Leaf label error) = Unit {0}
-SideDouble (Split column threshold left right lost missed) = T (fits binary64 threshold)
+SideDouble (Leaf leaf) = Unit {0}
+SideDouble (Split question left right) = T (fits binary64 (question .threshold))
 
 pub record TreeDouble (tree : Tree) : Type 0 where
-  pub root : T (fits binary64 (tree .threshold))
+  pub root : T (fits binary64 (tree .question .threshold))
   pub left : SideDouble (tree .left)
   pub right : SideDouble (tree .right)
 
@@ -58,10 +60,13 @@ NeverWorse =
     (s : Sheet) (t : Terms) (words : ℕ) → Doubles s → checkOf s t words ≡ Accepted
     → Hit (λ final. final ≤ t .error) (finalError (searchOf s t words))
 
--- a side's own errors, leaf by leaf
+-- what a leaf says came to it, and a side of its leaves
+abbrev pub ownError : leaf.Leaf → Reached
+ownError leaf = record { wrong = leaf .error }
+
 abbrev pub ownErrors : Side → Wrong
-ownErrors (Leaf label error) = AtLeaf error
-ownErrors (Split column threshold left right lost missed) = AtSplit lost missed
+ownErrors (Leaf leaf) = AtLeaf (ownError leaf)
+ownErrors (Split question left right) = AtSplit (ownError left) (ownError right)
 
 -- the judge takes the tree, and counts just the mistakes that it says it makes, leaf by leaf
 pub record AsItSays (s : Sheet) (tree : Tree) : Type 0 where

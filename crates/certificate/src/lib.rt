@@ -2,11 +2,7 @@
 use sheet::Size;
 use sheet::Terms;
 use tree::Answer;
-ghost use mathlib.Core.Path.{_≡_};
-ghost use lib.ListN.{length};
-ghost use Rattle.sheet.specs.Check.{sheetOf};
-ghost use Rattle.depth2.specs.Search.{searchOf, scratchOf};
-ghost use Rattle.certificate.specs.Certificate.{Certified};
+ghost use Rattle.certificate.specs.Promise.{SignedOf};
 
 // The search of a sheet. Its answer is the definition's, nothing better was passed over, it is never worse than the start, and a rule that
 // it names makes just the mistakes that it says.
@@ -20,9 +16,7 @@ pub fn certified_search(
     counts: &[u16],
     scratch: &mut [u32],
 ) -> Answer
-    ensures answer { λ r. ⌜ r ≡ searchOf (sheetOf size (now (values .entry)) (now (codes .entry)) (now (order .entry)) (now (cuts .entry)) (now (counts .entry))) terms (length (now (scratch .entry))) ⌝ }
-    ensures lent { λ _. ⌜ now (scratch .exit) ≡ scratchOf (sheetOf size (now (values .entry)) (now (codes .entry)) (now (order .entry)) (now (cuts .entry)) (now (counts .entry))) terms (now (scratch .entry)) ⌝ }
-    ensures certified { λ r. ⌜ Certified (sheetOf size (now (values .entry)) (now (codes .entry)) (now (order .entry)) (now (cuts .entry)) (now (counts .entry))) terms (length (now (scratch .entry))) r ⌝ }
+    ensures { λ r. ⌜ SignedOf size terms (now (values .entry)) (now (codes .entry)) (now (order .entry)) (now (cuts .entry)) (now (counts .entry)) (now (scratch .entry)) r (now (scratch .exit)) ⌝ }
 {
     depth2::search(size, terms, values, codes, order, cuts, counts, scratch)
 }

@@ -10,7 +10,10 @@ fn print_cut(ratios: &[f64], at: usize, lower: f64, upper: f64) {
     io::write_all(STDOUT_FILENO, b" at=");
     io::print_hex(STDOUT_FILENO, digits::bits_of(threshold), HEX_PLACES);
     io::write_all(STDOUT_FILENO, b" left=");
-    io::print_decimal(STDOUT_FILENO, parting::left_of_cut(ratios, at) as u64);
+    io::print_decimal(
+        STDOUT_FILENO,
+        threshold::parting::left_of_cut(ratios, at) as u64,
+    );
     io::write_all(STDOUT_FILENO, b"\n");
 }
 

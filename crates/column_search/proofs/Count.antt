@@ -14,7 +14,7 @@ use Rattle.basics.proofs.Lists.{all-map}
 use Rattle.interval_pruner.specs.declared.Tried.the-variants.{Nothing}
 use Rattle.interval_pruner.specs.declared.Bound.{Bound}
 use Rattle.interval_pruner.specs.declared.Zeros.{Zeros}
-use Rattle.interval_pruner.specs.Column.{Column, placeOf, errorOf}
+use Rattle.interval_pruner.specs.Column.{Column, placeIn, errorOf}
 use Rattle.column_search.specs.Search.{State, limit, zerosOf, middle, upperPart, lowerPart, queued, tryCut, dropped, turnOn, turn, turns, start, columnRun}
 use Rattle.column_search.specs.Laws.{Inside, Feasible, RunOf, Disjoint, Waits, Tries, Ends, holds, count, after}
 use Rattle.column_search.specs.Loop.{Waiting, Kept, Running, Loops, size, weight, finish}
@@ -26,7 +26,7 @@ use Rattle.column_search.proofs.Kept.{middle-placed, kept-turn, kept-st
 -- a smaller interval measures no more, and a try's cost is paid by what the parts measure less
 pub record Measure (c : Column) (W : Bound → ℕ) (cost : ℕ → ℕ) : Type 0 where
   pub shrinks : (i j : Bound) → Inside i j → W j ≤ W i
-  pub parts : (z : Zeros) (b : ℕ) (j : Bound) → j .first ≤ j .last → 1 ≤ placeOf c (middle j)
+  pub parts : (z : Zeros) (b : ℕ) (j : Bound) → j .first ≤ j .last → 1 ≤ placeIn c (middle j)
       → cost (middle j) + total W (queued c z b (middle j) j) ≤ W j
 
 module _ (c : Column) (bound first last : ℕ) (fair : Feasible c first last) (W : Bound → ℕ) (cost : ℕ → ℕ) (measure : Measure c W cost) where

@@ -10,9 +10,9 @@ use Rattle.interval_pruner.specs.declared.Tried.{Tried}
 use Rattle.interval_pruner.specs.declared.Tried.the-variants.{Nothing, Cut}
 use Rattle.interval_pruner.specs.declared.Bound.{Bound}
 use Rattle.interval_pruner.specs.declared.Zeros.{Zeros}
-use Rattle.interval_pruner.specs.Column.{Column, placeOf, errorOf}
+use Rattle.interval_pruner.specs.Column.{Column, placeIn, errorOf}
 use Rattle.column_search.specs.Search.{State, limit, zerosOf, middle, queued, tryCut, dropped, turnOn, turn, turns, start}
-use Rattle.column_search.specs.Laws.{Inside, Feasible, RunOf, Among, IfCut, Remembers, TriesFeasible, Counts, after}
+use Rattle.column_search.specs.Laws.{Inside, Feasible, RunOf, Among, IfCut, Remembers, TriesFeasible, TriesCounted, after}
 use Rattle.column_search.specs.Loop.{Seen, Waiting, Kept}
 use Rattle.column_search.proofs.Steps.{parts-all, try-all, turn-case}
 
@@ -43,7 +43,7 @@ module _ (c : Column) (first last b b′ m : ℕ) (tried : List ℕ) (less : b�
 
 module _ (c : Column) (bound first last : ℕ) (fair : Feasible c first last) where
   -- the cut that a try of j tries
-  pub middle-placed : (i j : Bound) → RunOf first last i → Inside i j → 1 ≤ placeOf c (middle j)
+  pub middle-placed : (i j : Bound) → RunOf first last i → Inside i j → 1 ≤ placeIn c (middle j)
   middle-placed i j r n = fair .placed (middle j) (omega arith) (omega arith)
 
   waiting-parts : (b b′ : ℕ) (tried : List ℕ) (z : Zeros) (i j : Bound) → b′ ≤ b → Waiting c first last b tried i → Inside i j
@@ -130,6 +130,6 @@ tries-feasible c bound first last error n fair =
     all-map (Seen c first last (limit bound (s .error)) (s .tried)) (λ k. (first ≤ k) × (k ≤ last)) (λ k g. (g .from, g .till))
     (s .tried) (kept-after c bound first last error n fair .tried)
 
-pub counts : Counts
+pub counts : TriesCounted
 unfolding tryCut
 counts c bound s rest i = (refl, refl)

@@ -9,8 +9,8 @@ use Rattle.basics.specs.Lists.{All, here, there}
 use Rattle.basics.proofs.Choice.{by-test, order, neqb}
 use Rattle.interval_pruner.specs.declared.Tried.{Tried}
 use Rattle.interval_pruner.specs.declared.Tried.the-variants.{Nothing, Cut}
-use Rattle.interval_pruner.specs.Column.{leftOf, rightOf}
-use Rattle.interval_pruner.specs.Pruner.{highest, lowest, zerosAfter}
+use Rattle.interval_pruner.specs.Column.{leftError, rightError}
+use Rattle.interval_pruner.specs.Pruner.{highestZero, lowestZero, zerosAfter}
 use Rattle.column_search.specs.Search.{zerosOf}
 use Rattle.column_search.specs.Laws.{Among, IfCut, Extreme, Marks}
 
@@ -72,13 +72,13 @@ module _ (P : ℕ → Type 0) (below : ℕ → ℕ → Type 0) (k : ℕ) (tried 
       go x (there a) q = f x (h .2 x a q)
 
 module _ (P : ℕ → Type 0) (k : ℕ) (tried : List ℕ) (p : P k) where
-  rises : (t : Tried) → Extreme P (λ x z. x ≤ z) tried t → Extreme P (λ x z. x ≤ z) (k ∷ tried) (highest k t)
-  unfolding highest
+  rises : (t : Tried) → Extreme P (λ x z. x ≤ z) tried t → Extreme P (λ x z. x ≤ z) (k ∷ tried) (highestZero k t)
+  unfolding highestZero
   rises Nothing h = opens P (λ x z. x ≤ z) k tried p (omega arith) h
   rises (Cut z) h = moves P (λ x z. x ≤ z) k tried z (max z k) p (omega arith) (λ x l. omega arith) (λ Q a b. max-either Q z k a b) h
 
-  sinks : (t : Tried) → Extreme P (λ x z. z ≤ x) tried t → Extreme P (λ x z. z ≤ x) (k ∷ tried) (lowest k t)
-  unfolding lowest
+  sinks : (t : Tried) → Extreme P (λ x z. z ≤ x) tried t → Extreme P (λ x z. z ≤ x) (k ∷ tried) (lowestZero k t)
+  unfolding lowestZero
   sinks Nothing h = opens P (λ x z. z ≤ x) k tried p (omega arith) h
   sinks (Cut z) h = moves P (λ x z. z ≤ x) k tried z (min z k) p (omega arith) (λ x l. omega arith) (λ Q a b. min-either Q z k a b) h
 
@@ -86,12 +86,12 @@ pub marks : Marks
 unfolding zerosOf zerosAfter
 marks c [] = (λ k a _. none-among k a, λ k a _. none-among k a)
 marks c (k ∷ tried) = (
-  by-test (Extreme (λ x. leftOf c x ≡ 0) (λ x z. x ≤ z) (k ∷ tried)) (eqb (leftOf c k) 0)
-      (λ t. rises (λ x. leftOf c x ≡ 0) k tried (eqb→eq (leftOf c k) 0 t) (zerosOf c tried .left) (marks c tried .0))
-      (λ t. skips (λ x. leftOf c x ≡ 0) (λ x z. x ≤ z) k tried (neqb (leftOf c k) 0 t) (zerosOf c tried .left) (marks c tried .0)),
-  by-test (Extreme (λ x. rightOf c x ≡ 0) (λ x z. z ≤ x) (k ∷ tried)) (eqb (rightOf c k) 0)
-      (λ t. sinks (λ x. rightOf c x ≡ 0) k tried (eqb→eq (rightOf c k) 0 t) (zerosOf c tried .right) (marks c tried .1))
-      (λ t. skips (λ x. rightOf c x ≡ 0) (λ x z. z ≤ x) k tried (neqb (rightOf c k) 0 t) (zerosOf c tried .right) (marks c tried .1)),
+  by-test (Extreme (λ x. leftError c x ≡ 0) (λ x z. x ≤ z) (k ∷ tried)) (eqb (leftError c k) 0)
+      (λ t. rises (λ x. leftError c x ≡ 0) k tried (eqb→eq (leftError c k) 0 t) (zerosOf c tried .left) (marks c tried .0))
+      (λ t. skips (λ x. leftError c x ≡ 0) (λ x z. x ≤ z) k tried (neqb (leftError c k) 0 t) (zerosOf c tried .left) (marks c tried .0)),
+  by-test (Extreme (λ x. rightError c x ≡ 0) (λ x z. z ≤ x) (k ∷ tried)) (eqb (rightError c k) 0)
+      (λ t. sinks (λ x. rightError c x ≡ 0) k tried (eqb→eq (rightError c k) 0 t) (zerosOf c tried .right) (marks c tried .1))
+      (λ t. skips (λ x. rightError c x ≡ 0) (λ x z. z ≤ x) k tried (neqb (rightError c k) 0 t) (zerosOf c tried .right) (marks c tried .1)),
 )
 
 -- what holds of every tried cut holds of a mark

@@ -17,11 +17,11 @@ use Rattle.interval_pruner.specs.declared.Tried.the-variants.{Nothing, Cut}
 use Rattle.interval_pruner.specs.declared.Bound.{Bound}
 use Rattle.interval_pruner.specs.declared.Shrunk.{Shrunk}
 use Rattle.interval_pruner.specs.declared.Shrunk.the-variants.{Dropped, To}
-use Rattle.interval_pruner.specs.Column.{Column, placeOf, leftOf, rightOf, errorOf}
-use Rattle.interval_pruner.specs.Pruner.{past, short, sumOf, heldLeft, heldRight, hopeless, startAfter, within, endAbove, endBefore, shrunkOf, upperFrom, lowerNear, lowerTo, partsOf}
+use Rattle.interval_pruner.specs.Column.{Column, placeIn, leftError, rightError, errorOf}
+use Rattle.interval_pruner.specs.Pruner.{past, short, sumOf, heldLeft, heldRight, hopeless, startAfter, intervalWithin, endAbove, endBefore, shrunkOf, upperFrom, lowerNear, lowerTo, partsOf}
 use Rattle.interval_pruner.proofs.Shrinking.{start-low}
 use Rattle.column_search.specs.Search.{State, limit, zerosOf, middle, part, upperPart, lowerPart, queued, tryCut, dropped, turnOn, turn, turns, start, columnRun}
-use Rattle.column_search.specs.Laws.{Inside, Feasible, RunOf, IfCut, Metric, Optimal, count}
+use Rattle.column_search.specs.Laws.{Inside, Feasible, RunOf, IfCut, Metric, NothingLost, count}
 use Rattle.column_search.specs.Loop.{Seen, Waiting, Kept}
 use Rattle.column_search.proofs.Steps.{past-ge, shrunkIn, newParts, turn-cases}
 use Rattle.column_search.proofs.Kept.{kept-try, kept-turn, kept-start}
@@ -42,12 +42,12 @@ module _ (c : Column) (bound first last : ℕ) (fair : Feasible c first last) (m
   module _ (b k : ℕ) (from : first ≤ k) (till : k ≤ last) (worth : errorOf c k + c .gap < b) (tried : List ℕ) where
     -- ---- step 1
 
-    left-held : (i : Bound) (o : Tried) → IfCut (λ l. (l < i .first) × Seen c first last b tried l) o → i .first ≤ k → heldLeft c o ≤ leftOf c k
+    left-held : (i : Bound) (o : Tried) → IfCut (λ l. (l < i .first) × Seen c first last b tried l) o → i .first ≤ k → heldLeft c o ≤ leftError c k
     unfolding heldLeft
     left-held i Nothing g h = omega arith
     left-held i (Cut l) g h = met .lefts l k (g .1 .from) (omega arith) till
 
-    right-held : (i : Bound) (o : Tried) → IfCut (λ r. (i .last ≤ r) × Seen c first last b tried r) o → k ≤ i .last → heldRight c o ≤ rightOf c k
+    right-held : (i : Bound) (o : Tried) → IfCut (λ r. (i .last ≤ r) × Seen c first last b tried r) o → k ≤ i .last → heldRight c o ≤ rightError c k
     unfolding heldRight
     right-held i Nothing g h = omega arith
     right-held i (Cut r) g h = met .rights k r from (omega arith) (g .1 .till)
@@ -65,14 +65,14 @@ module _ (c : Column) (bound first last : ℕ) (fair : Feasible c first last) (m
 
     -- ---- step 2
 
-    past-keeps : (o : Tried) (a : ℕ) → IfCut (λ z. Seen c first last b tried z × (leftOf c z ≡ 0)) o → a ≤ k → past o a ≤ k
+    past-keeps : (o : Tried) (a : ℕ) → IfCut (λ z. Seen c first last b tried z × (leftError c z ≡ 0)) o → a ≤ k → past o a ≤ k
     unfolding past
     past-keeps Nothing a g h = h
     past-keeps (Cut z) a g h =
         let s : Seen c first last b tried z = g .0 in
         order k z (λ l. absurd (omega (arith, met .rights k z from l (s .till)))) (λ l. omega arith)
 
-    short-keeps : (o : Tried) (e : ℕ) → IfCut (λ z. Seen c first last b tried z × (rightOf c z ≡ 0)) o → k ≤ e → k ≤ short o e
+    short-keeps : (o : Tried) (e : ℕ) → IfCut (λ z. Seen c first last b tried z × (rightError c z ≡ 0)) o → k ≤ e → k ≤ short o e
     unfolding short
     short-keeps Nothing e g h = h
     short-keeps (Cut z) e g h =
@@ -80,10 +80,10 @@ module _ (c : Column) (bound first last : ℕ) (fair : Feasible c first last) (m
         order z k (λ l. absurd (omega (arith, met .lefts z k (s .from) l till))) (λ l. omega arith)
 
     -- no cut near one whose error is not below B
-    near-right : (l : ℕ) → first ≤ l → l < k → b ≤ sumOf c l → placeOf c l + (sumOf c l - b) + 1 ≤ placeOf c k
+    near-right : (l : ℕ) → first ≤ l → l < k → b ≤ sumOf c l → placeIn c l + (sumOf c l - b) + 1 ≤ placeIn c k
     near-right l f h g = omega (arith, met .lefts l k f (omega arith) till, met .rightNear l k f (omega arith) till)
 
-    near-left : (r : ℕ) → k ≤ r → r ≤ last → b ≤ sumOf c r → placeOf c k + (sumOf c r - b + 1) ≤ placeOf c r
+    near-left : (r : ℕ) → k ≤ r → r ≤ last → b ≤ sumOf c r → placeIn c k + (sumOf c r - b + 1) ≤ placeIn c r
     near-left r h g l = omega (arith, met .rights k r from h g, met .leftNear k r from h g)
 
     startAfter-keeps : (i : Bound) (o : Tried) (a : ℕ) → IfCut (λ l. (l < i .first) × Seen c first last b tried l) o → i .first ≤ k → a ≤ k
@@ -91,24 +91,24 @@ module _ (c : Column) (bound first last : ℕ) (fair : Feasible c first last) (m
     unfolding startAfter
     startAfter-keeps i Nothing a g f h = h
     startAfter-keeps i (Cut l) a g f h =
-        let v : ℕ = placeOf c l + (sumOf c l - b) + 1 in
+        let v : ℕ = placeIn c l + (sumOf c l - b) + 1 in
         by-leb (λ x. x ≤ k) b (sumOf c l)
         (λ s. first-le (atLeast (c .places) v) (c .places) a k h
-        (le→leb v (placeOf c k) (near-right l (g .1 .from) (omega arith) s)))
+        (le→leb v (placeIn c k) (near-right l (g .1 .from) (omega arith) s)))
         (λ _. h)
 
     -- places do not fall
-    rises : (a : ℕ) → first ≤ a → a ≤ k → placeOf c a ≤ placeOf c k
+    rises : (a : ℕ) → first ≤ a → a ≤ k → placeIn c a ≤ placeIn c k
     rises a f h = reach a k h (λ e. rw e (omega arith)) (λ l. omega (arith, met .ascends a k f l till))
 
     -- a cut placed above x, from a on, is not before k
-    above-keeps : (x r : ℕ) → placeOf c k ≤ x → first ≤ r → (r < k → T (above (c .places) x r)) → k ≤ r
+    above-keeps : (x r : ℕ) → placeIn c k ≤ x → first ≤ r → (r < k → T (above (c .places) x r)) → k ≤ r
     above-keeps x r h f t =
         order k r (λ l. l)
-        (λ l. absurd (omega (arith, ltb→lt x (placeOf c r) (t l), met .ascends r k f l till)))
+        (λ l. absurd (omega (arith, ltb→lt x (placeIn c r) (t l), met .ascends r k f l till)))
 
-    within-keeps : (i : Bound) (a e : ℕ) → a ≤ k → k ≤ e → HitTo (Has k) (within i a e)
-    unfolding within
+    within-keeps : (i : Bound) (a e : ℕ) → a ≤ k → k ≤ e → HitTo (Has k) (intervalWithin i a e)
+    unfolding intervalWithin
     within-keeps i a e h g = by-leb (HitTo (Has k)) a e (λ _. (h, g)) (λ l. absurd (omega arith))
 
     endBefore-keeps : (i : Bound) (o : Tried) (a e : ℕ) → IfCut (λ r. (i .last ≤ r) × Seen c first last b tried r) o → k ≤ i .last
@@ -117,11 +117,11 @@ module _ (c : Column) (bound first last : ℕ) (fair : Feasible c first last) (m
     endBefore-keeps i Nothing a e g f fa h l = within-keeps i a e h l
     endBefore-keeps i (Cut r) a e g f fa h l =
         let s : Seen c first last b tried r = g .1 in
-        let x : ℕ = placeOf c r - (sumOf c r - b + 1) in
+        let x : ℕ = placeIn c r - (sumOf c r - b + 1) in
         let to : ℕ = firstFrom (above (c .places) x) (c .places) a in
         by-leb (HitTo (Has k)) b (sumOf c r)
-        (λ t. let far : placeOf c k ≤ x = omega (arith, near-left r (omega arith) (s .till) t) in
-        by-ltb (HitTo (Has k)) x (placeOf c a) (λ n. absurd (omega (arith, rises a fa h)))
+        (λ t. let far : placeIn c k ≤ x = omega (arith, near-left r (omega arith) (s .till) t) in
+        by-ltb (HitTo (Has k)) x (placeIn c a) (λ n. absurd (omega (arith, rises a fa h)))
         (λ n. within-keeps i a (min e to) h
         (omega (
           arith,
@@ -132,13 +132,13 @@ module _ (c : Column) (bound first last : ℕ) (fair : Feasible c first last) (m
 
     -- the marks, of tried cuts
     module _ (seen : All (Seen c first last b tried) tried) where
-      left-mark : IfCut (λ z. Seen c first last b tried z × (leftOf c z ≡ 0)) (zerosOf c tried .left)
+      left-mark : IfCut (λ z. Seen c first last b tried z × (leftError c z ≡ 0)) (zerosOf c tried .left)
       left-mark =
-          mark-of (Seen c first last b tried) (λ z. leftOf c z ≡ 0) (λ x z. x ≤ z) tried (zerosOf c tried .left) seen (marks c tried .0)
+          mark-of (Seen c first last b tried) (λ z. leftError c z ≡ 0) (λ x z. x ≤ z) tried (zerosOf c tried .left) seen (marks c tried .0)
 
-      right-mark : IfCut (λ z. Seen c first last b tried z × (rightOf c z ≡ 0)) (zerosOf c tried .right)
+      right-mark : IfCut (λ z. Seen c first last b tried z × (rightError c z ≡ 0)) (zerosOf c tried .right)
       right-mark =
-          mark-of (Seen c first last b tried) (λ z. rightOf c z ≡ 0) (λ x z. z ≤ x) tried (zerosOf c tried .right) seen (marks c tried .1)
+          mark-of (Seen c first last b tried) (λ z. rightError c z ≡ 0) (λ x z. z ≤ x) tried (zerosOf c tried .right) seen (marks c tried .1)
 
       shrunk-keeps : (i : Bound) → Waiting c first last b tried i → Has k i → HitTo (Has k) (shrunkOf c (zerosOf c tried) b i)
       unfolding shrunkOf
@@ -160,14 +160,14 @@ module _ (c : Column) (bound first last : ℕ) (fair : Feasible c first last) (m
         unfolding upperFrom
         upper-keeps h =
             let d : ℕ = errorOf c m - b + c .gap in
-            let v : ℕ = placeOf c m + d + 1 in
+            let v : ℕ = placeIn c m + d + 1 in
             by-test (λ x. x ≤ k) (c .small && ltb 0 d)
             (λ _. first-le (atLeast (c .places) v) (c .places) (past (zerosOf c tried .left) (suc m)) k
             (past-keeps (zerosOf c tried .left) (suc m) left-mark h)
-            (le→leb v (placeOf c k) (omega (arith, near-right m here-from h (omega arith)))))
+            (le→leb v (placeIn c k) (omega (arith, near-right m here-from h (omega arith)))))
             (λ _. h)
 
-        sought-keeps : (x a e : ℕ) → placeOf c k ≤ x → first ≤ a → k ≤ e → k ≤ soughtFrom (above (c .places) x) (c .places) a e
+        sought-keeps : (x a e : ℕ) → placeIn c k ≤ x → first ≤ a → k ≤ e → k ≤ soughtFrom (above (c .places) x) (c .places) a e
         sought-keeps x a e h f g =
             above-keeps x (soughtFrom (above (c .places) x) (c .places) a e) h
             (omega (arith, sought-low (above (c .places) x) (c .places) a e))
@@ -178,11 +178,11 @@ module _ (c : Column) (bound first last : ℕ) (fair : Feasible c first last) (m
         unfolding lowerTo lowerNear
         lower-keeps a f g h =
             let d : ℕ = errorOf c m - b + c .gap in
-            let x : ℕ = placeOf c m - (d + 1) in
-            let far : placeOf c k ≤ x = omega (arith, near-left m (omega arith) here-till (omega arith)) in
+            let x : ℕ = placeIn c m - (d + 1) in
+            let far : placeIn c k ≤ x = omega (arith, near-left m (omega arith) here-till (omega arith)) in
             by-test (λ y. k ≤ y) (c .small)
             (λ _. by-ltb (λ y. k ≤ y) 0 d
-            (λ _. by-ltb (λ y. k ≤ y) x (placeOf c a) (λ n. absurd (omega (arith, rises a f g)))
+            (λ _. by-ltb (λ y. k ≤ y) x (placeIn c a) (λ n. absurd (omega (arith, rises a f g)))
             (λ n. sought-keeps x a (short (zerosOf c tried .right) (m - 1)) far f
             (short-keeps (zerosOf c tried .right) (m - 1) right-mark (omega arith))))
             (λ _. omega arith))
@@ -264,7 +264,7 @@ module _ (c : Column) (bound first last : ℕ) (fair : Feasible c first last) (m
 none-has : (k : ℕ) → Any (Has k) [] → ⊥
 none-has k = elim [ ]
 
-pub optimal : Optimal
+pub optimal : NothingLost
 unfolding columnRun
 optimal c bound first last error k fair met hl hk =
     let r : State = columnRun c bound first last error in

@@ -17,22 +17,22 @@ use Rattle.interval_pruner.specs.declared.Shrunk.{Shrunk}
 use Rattle.interval_pruner.specs.declared.Shrunk.the-variants.{Dropped, To}
 use Rattle.interval_pruner.specs.declared.Zeros.{Zeros}
 use Rattle.interval_pruner.specs.declared.Parts.{Parts}
-use Rattle.interval_pruner.specs.Column.{Column, placeOf, leftOf, rightOf, errorOf}
-use Rattle.interval_pruner.specs.Pruner.{zerosAfter, past, short, sumOf, heldLeft, heldRight, hopeless, startAfter, within, endAbove, endBefore, shrunkOf, upperFrom, lowerNear, lowerTo, partsOf}
+use Rattle.interval_pruner.specs.Column.{Column, placeIn, leftError, rightError, errorOf}
+use Rattle.interval_pruner.specs.Pruner.{zerosAfter, past, short, sumOf, heldLeft, heldRight, hopeless, startAfter, intervalWithin, endAbove, endBefore, shrunkOf, upperFrom, lowerNear, lowerTo, partsOf}
 use Rattle.column_search.specs.Search.{State, limit, zerosOf, middle, part, upperPart, lowerPart, queued, tryCut, dropped, afterShrink, turnOn, turn, turns, start, columnRun}
 use Rattle.column_search.specs.Laws.{Inside, IfTo, Feasible, RunOf, IfCut, over, Agree, SameRun, count, after}
-use Rattle.column_search.specs.Loop.{Seen, Waiting, Kept, SameHope, SameShrunk, SameMarks, SameParts, SameTry, SameTurn, Recalls}
+use Rattle.column_search.specs.Loop.{Seen, Waiting, Kept, SameHope, SameShrunk, SameZeros, SameParts, SameTry, SameTurn, Recalls}
 use Rattle.column_search.proofs.Steps.{shrunk-in, shrunkIn}
 use Rattle.column_search.proofs.Kept.{cut-map, kept-turn, kept-start}
 use Rattle.column_search.proofs.Marks.{all-among}
 
 module _ (c : Column) (errors : ℕ → ℕ × ℕ) where
-  left-same : (k : ℕ) → Agree c errors k → leftOf c k ≡ leftOf (over c errors) k
-  unfolding leftOf
+  left-same : (k : ℕ) → Agree c errors k → leftError c k ≡ leftError (over c errors) k
+  unfolding leftError
   left-same k e = ap (λ (p : ℕ × ℕ). p .0) e
 
-  right-same : (k : ℕ) → Agree c errors k → rightOf c k ≡ rightOf (over c errors) k
-  unfolding rightOf
+  right-same : (k : ℕ) → Agree c errors k → rightError c k ≡ rightError (over c errors) k
+  unfolding rightError
   right-same k e = ap (λ (p : ℕ × ℕ). p .1) e
 
   error-same : (k : ℕ) → Agree c errors k → errorOf c k ≡ errorOf (over c errors) k
@@ -54,7 +54,7 @@ module _ (c : Column) (errors : ℕ → ℕ × ℕ) where
   unfolding startAfter
   startAfter-same b Nothing first h = refl
   startAfter-same b (Cut k) first h =
-      ap (λ (x : ℕ). pick (leb b (x + c .gap)) (firstFrom (atLeast (c .places) (placeOf c k + (x + c .gap - b) + 1)) (c .places) first) first)
+      ap (λ (x : ℕ). pick (leb b (x + c .gap)) (firstFrom (atLeast (c .places) (placeIn c k + (x + c .gap - b) + 1)) (c .places) first) first)
       (error-same k h)
 
   endAbove-same : (i : Bound) (x first last : ℕ) → endAbove c i x first last ≡ endAbove (over c errors) i x first last
@@ -66,9 +66,9 @@ module _ (c : Column) (errors : ℕ → ℕ × ℕ) where
   unfolding endBefore
   endBefore-same b Nothing i first last h = refl
   endBefore-same b (Cut k) i first last h =
-      ap (λ (x : ℕ). pick (leb b (x + c .gap)) (endAbove c i (placeOf c k - (x + c .gap - b + 1)) first last) (within i first last)) (error-same k h)
-      ∙ ap (λ (r : Shrunk). pick (leb b (sumOf (over c errors) k)) r (within i first last))
-      (endAbove-same i (placeOf c k - (sumOf (over c errors) k - b + 1)) first last)
+      ap (λ (x : ℕ). pick (leb b (x + c .gap)) (endAbove c i (placeIn c k - (x + c .gap - b + 1)) first last) (intervalWithin i first last)) (error-same k h)
+      ∙ ap (λ (r : Shrunk). pick (leb b (sumOf (over c errors) k)) r (intervalWithin i first last))
+      (endAbove-same i (placeIn c k - (sumOf (over c errors) k - b + 1)) first last)
 
 pub same-hope : SameHope
 unfolding hopeless
@@ -79,11 +79,11 @@ unfolding shrunkOf
 same-shrunk c errors z b i l r =
     let p : ℕ = past (z .left) (i .first) in
     let e : ℕ = short (z .right) (i .last) in
-    ap (λ (x : Shrunk). pick (c .small) x (within i (i .first) (i .last)))
+    ap (λ (x : Shrunk). pick (c .small) x (intervalWithin i (i .first) (i .last)))
     (ap (λ (a : ℕ). endBefore c b (i .right) i a e) (startAfter-same c errors b (i .left) p l)
     ∙ endBefore-same c errors b (i .right) i (startAfter (over c errors) b (i .left) p) e r)
 
-pub same-marks : SameMarks
+pub same-marks : SameZeros
 unfolding zerosOf
 same-marks c errors [] h = refl
 same-marks c errors (k ∷ tried) h =

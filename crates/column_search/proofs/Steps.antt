@@ -17,8 +17,8 @@ use Rattle.interval_pruner.specs.declared.Bound.{Bound}
 use Rattle.interval_pruner.specs.declared.Shrunk.{Shrunk}
 use Rattle.interval_pruner.specs.declared.Shrunk.the-variants.{Dropped, To}
 use Rattle.interval_pruner.specs.declared.Zeros.{Zeros}
-use Rattle.interval_pruner.specs.Column.{Column, placeOf, errorOf}
-use Rattle.interval_pruner.specs.Pruner.{past, short, sumOf, startAfter, within, endAbove, endBefore, shrunkOf, upperFrom, lowerNear, lowerTo, partsOf, hopeless}
+use Rattle.interval_pruner.specs.Column.{Column, placeIn, errorOf}
+use Rattle.interval_pruner.specs.Pruner.{past, short, sumOf, startAfter, intervalWithin, endAbove, endBefore, shrunkOf, upperFrom, lowerNear, lowerTo, partsOf, hopeless}
 use Rattle.interval_pruner.proofs.Shrinking.{start-low}
 use Rattle.column_search.specs.Search.{State, limit, zerosOf, middle, part, upperPart, lowerPart, queued, tryCut, dropped, afterShrink, turnOn}
 use Rattle.column_search.specs.Laws.{IfTo, Inside, Shrinks, Sides}
@@ -35,8 +35,8 @@ unfolding short
 short-le Nothing last = omega arith
 short-le (Cut z) last = omega arith
 
-within-in : (i : Bound) (first last : ℕ) → i .first ≤ first → last ≤ i .last → IfTo (Inside i) (within i first last)
-unfolding within
+within-in : (i : Bound) (first last : ℕ) → i .first ≤ first → last ≤ i .last → IfTo (Inside i) (intervalWithin i first last)
+unfolding intervalWithin
 within-in i first last h g =
     by-leb (IfTo (Inside i)) first last (λ l. record { low = h; full = l; high = g; left = refl; right = refl }) (λ _. tt)
 
@@ -45,9 +45,9 @@ endBefore-in : (c : Column) (b : ℕ) (o : Tried) (i : Bound) (first last : ℕ)
 unfolding endBefore endAbove
 endBefore-in c b Nothing i first last h g = within-in i first last h g
 endBefore-in c b (Cut k) i first last h g =
-    let x : ℕ = placeOf c k - (sumOf c k - b + 1) in
+    let x : ℕ = placeIn c k - (sumOf c k - b + 1) in
     by-leb (IfTo (Inside i)) b (sumOf c k)
-    (λ _. by-ltb (IfTo (Inside i)) x (placeOf c first) (λ _. tt)
+    (λ _. by-ltb (IfTo (Inside i)) x (placeIn c first) (λ _. tt)
     (λ _. within-in i first (min last (firstFrom (above (c .places) x) (c .places) first)) h (omega arith)))
     (λ _. within-in i first last h g)
 
@@ -69,18 +69,18 @@ upperFrom-gt c z d m =
     (λ _. omega (
       arith,
       past-ge (z .left) (suc m),
-      first-low (atLeast (c .places) (placeOf c m + d + 1)) (c .places) (past (z .left) (suc m)),
+      first-low (atLeast (c .places) (placeIn c m + d + 1)) (c .places) (past (z .left) (suc m)),
     ))
     (λ _. omega arith)
 
-pub lowerTo-le : (c : Column) (z : Zeros) (d m first : ℕ) → first ≤ m → 1 ≤ placeOf c m → lowerTo c z d m first ≤ m
+pub lowerTo-le : (c : Column) (z : Zeros) (d m first : ℕ) → first ≤ m → 1 ≤ placeIn c m → lowerTo c z d m first ≤ m
 unfolding lowerTo lowerNear
 lowerTo-le c z d m first h g =
-    let x : ℕ = placeOf c m - (d + 1) in
+    let x : ℕ = placeIn c m - (d + 1) in
     by-test (λ y. y ≤ m) (c .small)
     (λ _. by-ltb (λ y. y ≤ m) 0 d
-    (λ _. by-ltb (λ y. y ≤ m) x (placeOf c first) (λ _. omega arith)
-    (λ _. sought-le (above (c .places) x) (c .places) first (short (z .right) (m - 1)) m h (lt→ltb x (placeOf c m) (omega arith))))
+    (λ _. by-ltb (λ y. y ≤ m) x (placeIn c first) (λ _. omega arith)
+    (λ _. sought-le (above (c .places) x) (c .places) first (short (z .right) (m - 1)) m h (lt→ltb x (placeIn c m) (omega arith))))
     (λ _. omega arith))
     (λ _. omega arith)
 
@@ -94,7 +94,7 @@ unfolding part
 part-total W i n f = by-leb (λ p. total W p ≤ n) (i .first) (i .last) (λ h. omega (arith, f h)) (λ _. omega arith)
 
 pub parts-total : (W : Bound → ℕ) (c : Column) (z : Zeros) (b m : ℕ) (i : Bound) (nu nl n : ℕ) → i .first ≤ m → i .first ≤ i .last
-    → 1 ≤ placeOf c m
+    → 1 ≤ placeIn c m
     → ((u : ℕ) → m < u → u ≤ i .last → W (upperPart i m u) ≤ nu)
     → ((l : ℕ) → i .first ≤ l → l ≤ m → W (lowerPart i m l) ≤ nl)
     → (i .first < i .last → nu + nl ≤ n)
@@ -122,7 +122,7 @@ part-all : (P : Bound → Type 0) (i : Bound) → (i .first ≤ i .last → P i)
 unfolding part
 part-all P i f = by-leb (All P) (i .first) (i .last) (λ h. (f h, tt)) (λ _. tt)
 
-pub parts-all : (P : Bound → Type 0) (c : Column) (z : Zeros) (b m : ℕ) (i : Bound) → i .first ≤ m → 1 ≤ placeOf c m
+pub parts-all : (P : Bound → Type 0) (c : Column) (z : Zeros) (b m : ℕ) (i : Bound) → i .first ≤ m → 1 ≤ placeIn c m
     → ((u : ℕ) → m < u → u ≤ i .last → P (upperPart i m u))
     → ((l : ℕ) → i .first ≤ l → l ≤ m → P (lowerPart i m l))
     → All P (queued c z b m i)

@@ -14,9 +14,9 @@ use Rattle.interval_pruner.specs.declared.Bound.{Bound}
 use Rattle.interval_pruner.specs.declared.Shrunk.{Shrunk}
 use Rattle.interval_pruner.specs.declared.Shrunk.the-variants.{Dropped, To}
 use Rattle.interval_pruner.specs.declared.Zeros.{Zeros}
-use Rattle.interval_pruner.specs.Column.{Column, placeOf, leftOf, rightOf, errorOf}
+use Rattle.interval_pruner.specs.Column.{Column, placeIn, leftError, rightError, errorOf}
 use Rattle.interval_pruner.specs.Pruner.{shrunkOf, partsOf}
-use Rattle.column_search.specs.Search.{State, zerosOf, tryCut, dropped, turns, start, columnRun, triedOf}
+use Rattle.column_search.specs.Search.{State, zerosOf, tryCut, dropped, turns, start, columnRun, triesOf}
 
 -- ---- what is asked of the column
 
@@ -24,7 +24,7 @@ use Rattle.column_search.specs.Search.{State, zerosOf, tryCut, dropped, 
 pub record Feasible (c : Column) (first last : ℕ) : Type 0 where
   pub full : first ≤ last
   pub listed : last < length (c .places)
-  pub placed : (k : ℕ) → first ≤ k → k ≤ last → 1 ≤ placeOf c k
+  pub placed : (k : ℕ) → first ≤ k → k ≤ last → 1 ≤ placeIn c k
 
 -- f, the number of feasible cuts
 abbrev pub count : ℕ → ℕ → ℕ
@@ -55,7 +55,7 @@ Shrinks = (c : Column) (z : Zeros) (b : ℕ) (i : Bound) → IfTo (Inside i) (sh
 -- the upper part starts past the tried cut, and the lower part ends at it or before
 abbrev pub Sides : Type 0
 Sides =
-    (c : Column) (z : Zeros) (excess m first : ℕ) → first ≤ m → 1 ≤ placeOf c m
+    (c : Column) (z : Zeros) (excess m first : ℕ) → first ≤ m → 1 ≤ placeIn c m
     → (m < partsOf c z excess m first .upper) × (partsOf c z excess m first .lower ≤ m)
 
 -- ---- the queue
@@ -89,7 +89,7 @@ Waits =
 abbrev pub Tries : Type 0
 Tries =
     (c : Column) (bound first last error n : ℕ) → Feasible c first last
-    → triedOf (after c bound first last error n) ≤ 2 * count first last - 1
+    → triesOf (after c bound first last error n) ≤ 2 * count first last - 1
 
 -- ---- the end
 
@@ -103,10 +103,10 @@ Ends =
 -- ---- what was tried
 
 -- "tried rises by 1" with each try, and stays where an interval is dropped
-abbrev pub Counts : Type 0
-Counts =
+abbrev pub TriesCounted : Type 0
+TriesCounted =
     (c : Column) (bound : ℕ) (s : State) (rest : List Bound) (i : Bound)
-    → (triedOf (tryCut c bound s rest i) ≡ suc (triedOf s)) × (triedOf (dropped s rest) ≡ triedOf s)
+    → (triesOf (tryCut c bound s rest i) ≡ suc (triesOf s)) × (triesOf (dropped s rest) ≡ triesOf s)
 
 -- every tried cut is feasible
 abbrev pub TriesFeasible : Type 0
@@ -139,8 +139,8 @@ Extreme P below tried (Cut z) = Among z tried × P z × ((k : ℕ) → Among k t
 abbrev pub Marks : Type 0
 Marks =
     (c : Column) (tried : List ℕ)
-    → Extreme (λ k. leftOf c k ≡ 0) (λ k z. k ≤ z) tried (zerosOf c tried .left)
-    × Extreme (λ k. rightOf c k ≡ 0) (λ k z. z ≤ k) tried (zerosOf c tried .right)
+    → Extreme (λ k. leftError c k ≡ 0) (λ k z. k ≤ z) tried (zerosOf c tried .left)
+    × Extreme (λ k. rightError c k ≡ 0) (λ k z. z ≤ k) tried (zerosOf c tried .right)
 
 -- ---- the error
 
@@ -158,16 +158,16 @@ Lowers = (c : Column) (bound first last error : ℕ) → Feasible c first last �
 -- Over the feasible cuts: places ascend; left errors grow with the cut and right errors fall; moving the cut by some rows changes neither by
 -- more than their number.
 pub record Metric (c : Column) (first last : ℕ) : Type 0 where
-  pub ascends : (i j : ℕ) → first ≤ i → i < j → j ≤ last → placeOf c i < placeOf c j
-  pub lefts : (i j : ℕ) → first ≤ i → i ≤ j → j ≤ last → leftOf c i ≤ leftOf c j
-  pub rights : (i j : ℕ) → first ≤ i → i ≤ j → j ≤ last → rightOf c j ≤ rightOf c i
-  pub leftNear : (i j : ℕ) → first ≤ i → i ≤ j → j ≤ last → leftOf c j ≤ leftOf c i + (placeOf c j - placeOf c i)
-  pub rightNear : (i j : ℕ) → first ≤ i → i ≤ j → j ≤ last → rightOf c i ≤ rightOf c j + (placeOf c j - placeOf c i)
+  pub ascends : (i j : ℕ) → first ≤ i → i < j → j ≤ last → placeIn c i < placeIn c j
+  pub lefts : (i j : ℕ) → first ≤ i → i ≤ j → j ≤ last → leftError c i ≤ leftError c j
+  pub rights : (i j : ℕ) → first ≤ i → i ≤ j → j ≤ last → rightError c j ≤ rightError c i
+  pub leftNear : (i j : ℕ) → first ≤ i → i ≤ j → j ≤ last → leftError c j ≤ leftError c i + (placeIn c j - placeIn c i)
+  pub rightNear : (i j : ℕ) → first ≤ i → i ≤ j → j ≤ last → rightError c i ≤ rightError c j + (placeIn c j - placeIn c i)
 
 -- Pruning loses nothing: no feasible cut is better than the smaller of the final error and the upper bound by more than the gap. With support at
 -- most 1 the two-side scan is such an evaluator. With larger support it may not be, and nothing is pruned.
-abbrev pub Optimal : Type 0
-Optimal =
+abbrev pub NothingLost : Type 0
+NothingLost =
     (c : Column) (bound first last error k : ℕ) → Feasible c first last → Metric c first last → first ≤ k → k ≤ last
     → min (columnRun c bound first last error .error) bound ≤ errorOf c k + c .gap
 

@@ -8,7 +8,7 @@ use Rattle.interval_pruner.specs.declared.Bound.{Bound}
 use Rattle.interval_pruner.specs.declared.Zeros.{Zeros}
 use Rattle.interval_pruner.specs.Column.{Column, errorOf}
 use Rattle.interval_pruner.specs.Pruner.{hopeless, shrunkOf, partsOf}
-use Rattle.column_search.specs.Search.{State, limit, zerosOf, middle, tryCut, turn, turns, start, columnRun, triedOf}
+use Rattle.column_search.specs.Search.{State, limit, zerosOf, middle, tryCut, turn, turns, start, columnRun, triesOf}
 use Rattle.column_search.specs.Laws.{Feasible, RunOf, Among, IfCut, over, Agree, count}
 
 -- ---- what holds between any two intervals
@@ -47,7 +47,7 @@ finish c bound s = turns c bound (total weight (s .queue)) s
 pub record Running (c : Column) (bound first last error : ℕ) (s : State) : Type 0 where
   pub kept : Kept c bound first last s
   pub sizes : total size (s .queue) ≤ count first last
-  pub weights : triedOf s + total weight (s .queue) ≤ 2 * count first last - 1
+  pub weights : triesOf s + total weight (s .queue) ≤ 2 * count first last - 1
   pub comes : finish c bound s ≡ columnRun c bound first last error
 
 -- .. and what that gives it: room in the queue, a measure, and at the end the run's state
@@ -75,8 +75,8 @@ SameShrunk =
     → shrunkOf c z b i ≡ shrunkOf (over c errors) z b i
 
 -- .. the marks at those of the tried cuts, ..
-abbrev pub SameMarks : Type 0
-SameMarks =
+abbrev pub SameZeros : Type 0
+SameZeros =
     (c : Column) (errors : ℕ → ℕ × ℕ) (tried : List ℕ) → All (Agree c errors) tried → zerosOf c tried ≡ zerosOf (over c errors) tried
 
 -- .. step 5 at none, beyond the excess that it is handed, ..

@@ -13,7 +13,7 @@ use Rattle.interval_pruner.specs.declared.Shrunk.{Shrunk}
 use Rattle.interval_pruner.specs.declared.Shrunk.the-variants.{Dropped, To}
 use Rattle.interval_pruner.specs.declared.Zeros.{Zeros}
 use Rattle.interval_pruner.specs.declared.Parts.{Parts}
-use Rattle.interval_pruner.specs.Column.{Column, leftOf, rightOf, errorOf}
+use Rattle.interval_pruner.specs.Column.{Column, leftError, rightError, errorOf}
 use Rattle.interval_pruner.specs.Pruner.{zerosAfter, hopeless, shrunkOf, partsOf}
 
 -- The state between two intervals: those queued, first in first out; the current error; the cut that last strictly lowered it; the cuts
@@ -31,7 +31,7 @@ limit bound error = min error bound
 -- the highest cut of those tried with left error 0, and the lowest with right error 0
 unfoldable pub zerosOf : Column → List ℕ → Zeros
 zerosOf c [] = record { left = Nothing; right = Nothing }
-zerosOf c (k ∷ tried) = zerosAfter (zerosOf c tried) k (leftOf c k) (rightOf c k)
+zerosOf c (k ∷ tried) = zerosAfter (zerosOf c tried) k (leftError c k) (rightError c k)
 
 -- "Try the cut number (left+right)/2, rounded down"
 abbrev pub middle : Bound → ℕ
@@ -114,5 +114,5 @@ unfoldable pub columnRun : Column → ℕ → ℕ → ℕ → ℕ → State
 columnRun c bound first last error = turns c bound (2 * (suc last - first)) (start first last error)
 
 -- "tried rises by 1" with each try
-abbrev pub triedOf : State → ℕ
-triedOf s = length (s .tried)
+abbrev pub triesOf : State → ℕ
+triesOf s = length (s .tried)

@@ -4,3 +4,7 @@ pub mod Places
 pub mod Steps
 pub mod Turns
 pub mod Loop
+pub mod Lent
+pub mod Marks
+pub mod Try
+pub mod Accepted

@@ -17,13 +17,13 @@ use Rattle.column_search.specs.Search.{zerosOf, start, columnRun}
 use Rattle.column_search.specs.Laws.{Feasible}
 use Rattle.column_search.specs.Loop.{Looping}
 use Rattle.column_search.proofs.Count.{loops}
-use Rattle.interval_steps.specs.declared.Standing.{Standing}
+use Rattle.column_turns.specs.declared.interval_steps.Standing.{Standing}
 use Rattle.column_turns.specs.declared.Course.{Course}
-use Rattle.cut_try.specs.Lent.{ringOf, Enough, Became}
-use Rattle.cut_try.specs.Try.{columnOf}
+use Rattle.column_turns.specs.Lent.{ringOf, Enough, Became}
+use Rattle.column_turns.specs.Try.{searchedColumn}
 use Rattle.column_turns.specs.Parts.{Pushing}
 use Rattle.column_turns.specs.Course.{heldAfter, standingAfter, feasibleAt, firstAt, lastAt, Stands, Begun, Opened, columnAfter}
-use Rattle.cut_try.proofs.Lent.{became-enough}
+use Rattle.column_turns.proofs.Lent.{became-enough}
 use Rattle.column_turns.proofs.Queueing.{ring-slots}
 use Rattle.column_turns.proofs.Turns.{feasible-cuts}
 
@@ -47,7 +47,7 @@ none-waits words q h = let z : q .waiting ≡ 0 = omega arith in ap (table _) z
 
 module _ (s : Sheet) (t : Terms) (c : ℕ) (p : Standing) (xs : List ℕ) (course : Course) (begun : Begun s t c xs) where
   abbrev col : Column
-  col = columnOf s t c
+  col = searchedColumn s t c
 
   fair : Feasible col (firstAt s t c) (lastAt s t c)
   fair = feasible-cuts s t c (begun .whole) (begun .here) (begun .some)
@@ -92,6 +92,6 @@ unfolding columnAfter
 column-none s t c p h = sym (pick-false (ltb (firstAt s t c) (feasibleAt s t c .end)) _ p (nltb (firstAt s t c) (feasibleAt s t c .end) h))
 
 pub column-some : (s : Sheet) (t : Terms) (c : ℕ) (p : Standing) → firstAt s t c < feasibleAt s t c .end
-    → standingAfter s (t .support) c p (columnRun (columnOf s t c) (t .bound) (firstAt s t c) (lastAt s t c) (p .error)) ≡ columnAfter s t c p
+    → standingAfter s (t .support) c p (columnRun (searchedColumn s t c) (t .bound) (firstAt s t c) (lastAt s t c) (p .error)) ≡ columnAfter s t c p
 unfolding columnAfter
 column-some s t c p h = sym (pick-true (ltb (firstAt s t c) (feasibleAt s t c .end)) _ p (lt→ltb (firstAt s t c) (feasibleAt s t c .end) h))

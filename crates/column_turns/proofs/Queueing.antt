@@ -15,7 +15,7 @@ use Rattle.interval_pruner.specs.declared.Tried.the-variants.{Nothing, Cut}
 use Rattle.interval_pruner.specs.declared.Bound.{Bound}
 use Rattle.interval_pruner.specs.declared.Parts.{Parts}
 use Rattle.interval_pruner.specs.declared.Zeros.{Zeros}
-use Rattle.interval_pruner.specs.Column.{columnOf}
+use Rattle.interval_pruner.specs.Column.{recordedColumn}
 use Rattle.interval_pruner.specs.Pruner.{partsOf}
 use Rattle.interval_queue.specs.declared.Queue.{Queue}
 use Rattle.interval_queue.specs.Ring.{slotsOf, contents, full, pushed, pushedWords}
@@ -24,9 +24,9 @@ use Rattle.interval_queue.proofs.Waiting.{push-appends}
 use Rattle.column_search.specs.Search.{part, upperPart, lowerPart}
 use Rattle.column_search.specs.Laws.{IfCut}
 use Rattle.column_search.proofs.Steps.{sides}
-use Rattle.cut_try.specs.Lent.{tableOf, ringOf, Enough, Became}
-use Rattle.column_turns.specs.Parts.{Pushing, Queued, Parting, partsQueued}
-use Rattle.cut_try.proofs.Lent.{ring-length, became-enough}
+use Rattle.column_turns.specs.Lent.{tableOf, ringOf, Enough, Became}
+use Rattle.column_turns.specs.Parts.{Pushing, Queued, PartsWaiting, partsQueued}
+use Rattle.column_turns.proofs.Lent.{ring-length, became-enough}
 
 -- as many slots as rows
 pub ring-slots : (rows : ℕ) (xs : List ℕ) → Enough rows xs → slotsOf (ringOf rows xs) ≡ rows
@@ -94,9 +94,9 @@ unfolding part
 part-few i = by-test (λ (l : List Bound). length l ≤ 1) (leb (i .first) (i .last)) (λ _. omega arith) (λ _. omega arith)
 
 module _ (rows : ℕ) (places : List ℕ) (zeros : Zeros) (i : Bound) (cut : ℕ) (queue : Queue) (xs : List ℕ)
-    (parting : Parting rows places zeros i cut queue xs) (gap : ℕ) (small : Bool) (excess : ℕ) where
+    (parting : PartsWaiting rows places zeros i cut queue xs) (gap : ℕ) (small : Bool) (excess : ℕ) where
   abbrev parts : Parts
-  parts = partsOf (columnOf places [] gap small) zeros excess cut (i .first)
+  parts = partsOf (recordedColumn places [] gap small) zeros excess cut (i .first)
 
   pub upper-pushing : Pushing rows xs queue (upperPart i cut (parts .upper))
   upper-pushing =
@@ -126,7 +126,7 @@ module _ (rows : ℕ) (places : List ℕ) (zeros : Zeros) (i : Bound) (cut : ℕ
               last =
                   omega (
                     arith,
-                    (sides (columnOf places [] gap small) zeros excess cut (i .first) (parting .from-first) (parting .placed)) .1,
+                    (sides (recordedColumn places [] gap small) zeros excess cut (i .first) (parting .from-first) (parting .placed)) .1,
                     parting .to-last,
                     parting .till,
                     parting .listed,

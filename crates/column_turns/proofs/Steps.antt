@@ -18,25 +18,25 @@ use Rattle.leaves_score.specs.Root.{errorsAt}
 use Rattle.interval_pruner.specs.declared.Bound.{Bound}
 use Rattle.interval_pruner.specs.declared.Zeros.{Zeros}
 use Rattle.interval_pruner.specs.declared.Parts.{Parts}
-use Rattle.interval_pruner.specs.Column.{Column, leftOf, rightOf, errorOf, recorded}
+use Rattle.interval_pruner.specs.Column.{Column, leftError, rightError, errorOf, recorded}
 use Rattle.interval_pruner.specs.Pruner.{zerosAfter, recordedAfter}
 use Rattle.interval_queue.specs.declared.Queue.{Queue}
 use Rattle.interval_queue.specs.Ring.{contents}
 use Rattle.interval_queue.specs.Laws.{Sane}
-use Rattle.column_search.specs.Search.{State, limit, zerosOf, middle, part, upperPart, lowerPart, queued, tryCut, triedOf}
+use Rattle.column_search.specs.Search.{State, limit, zerosOf, middle, part, upperPart, lowerPart, queued, tryCut, triesOf}
 use Rattle.column_search.specs.Laws.{Agree}
 use Rattle.column_search.proofs.Same.{same-parts}
-use Rattle.interval_steps.specs.declared.Held.{Held}
-use Rattle.interval_steps.specs.declared.Held.the-variants.{Rule}
-use Rattle.interval_steps.specs.declared.Standing.{Standing}
+use Rattle.column_turns.specs.declared.interval_steps.Held.{Held}
+use Rattle.column_turns.specs.declared.interval_steps.Held.the-variants.{Rule}
+use Rattle.column_turns.specs.declared.interval_steps.Standing.{Standing}
 use Rattle.column_turns.specs.declared.Course.{Course}
 use Rattle.column_turns.specs.declared.Attempt.{Attempt}
-use Rattle.cut_try.specs.Lent.{tableOf, ringOf, Enough, Became}
-use Rattle.cut_try.specs.Try.{columnOf, treeAt, triedTree}
-use Rattle.interval_steps.specs.Steps.{improvedBy, endsColumn}
+use Rattle.column_turns.specs.Lent.{tableOf, ringOf, Enough, Became}
+use Rattle.column_turns.specs.Try.{searchedColumn, treeAt, triedTree}
+use Rattle.column_turns.specs.Steps.{improvedBy, endsColumn}
 use Rattle.column_turns.specs.Parts.{partsQueued}
 use Rattle.column_turns.specs.Course.{heldAfter, standingAfter, Attempted, Matches}
-use Rattle.cut_try.proofs.Lent.{table-length}
+use Rattle.column_turns.proofs.Lent.{table-length}
 
 -- ---- the table
 
@@ -107,21 +107,21 @@ module _ (s : Sheet) (t : Terms) (c : ℕ) (p : Standing) (xs ys zs : List ℕ) 
     (tried .tree .error - min (improvedBy (course .standing) (tried .tree) .error) (t .bound)) (middle i) i))
     (sane : Sane (ringOf (s .rows) zs) queue) where
   abbrev col : Column
-  col = columnOf s t c
+  col = searchedColumn s t c
 
   abbrev m : ℕ
   m = middle i
 
   error-is : tried .tree .error ≡ errorOf col m
-  unfolding leftOf rightOf triedTree treeAt
+  unfolding leftError rightError triedTree treeAt
   error-is = ap (λ z. z .error) (attempted .tree)
 
   whole-error : errorOf col m ≡ (errorsAt s (t .support) c m) .0 + (errorsAt s (t .support) c m) .1
-  unfolding leftOf rightOf
+  unfolding leftError rightError
   whole-error = refl
 
   tree-error : triedTree s (t .support) c m .error ≡ errorOf col m
-  unfolding leftOf rightOf triedTree treeAt
+  unfolding leftError rightError triedTree treeAt
   tree-error = refl
 
   current-is : course .standing .error ≡ state .error
@@ -129,18 +129,18 @@ module _ (s : Sheet) (t : Terms) (c : ℕ) (p : Standing) (xs ys zs : List ℕ) 
   current-is = ap (λ (z : Standing). z .error) (matches .standing)
 
   zeros-next : tried .zeros ≡ zerosOf col (m ∷ state .tried)
-  unfolding zerosOf leftOf rightOf
+  unfolding zerosOf leftError rightError
   zeros-next = attempted .zeros-are ∙ ap (λ (z : Zeros). zerosAfter z m ((errorsAt s (t .support) c m) .0) ((errorsAt s (t .support) c m) .1)) (matches .zeros)
 
   standing-next : improvedBy (course .standing) (tried .tree) ≡ standingAfter s (t .support) c p (tryCut col (t .bound) state (state .queue) i)
   unfolding improvedBy standingAfter tryCut
   standing-next =
       let h = held-next s (t .support) c m (errorOf col m) (state .error) (state .best) (p .held) whole-error in
-      let n : p .tried + triedOf state + 1 ≡ p .tried + suc (triedOf state) = omega arith in
+      let n : p .tried + triesOf state + 1 ≡ p .tried + suc (triesOf state) = omega arith in
       (λ k. improvedBy (matches .standing k) (attempted .tree k))
       ∙ ap (λ (e : ℕ). record {
         error = min e (state .error);
-        tried = p .tried + triedOf state + 1;
+        tried = p .tried + triesOf state + 1;
         held = pick (ltb e (state .error)) (Rule (triedTree s (t .support) c m)) (heldAfter s (t .support) c (state .best) (state .error) (p .held));
       }) tree-error
       ∙ (λ k. record { error = min (errorOf col m) (state .error); tried = n k; held = h k })

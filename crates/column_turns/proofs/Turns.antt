@@ -26,8 +26,8 @@ use Rattle.interval_pruner.specs.declared.Shrunk.{Shrunk}
 use Rattle.interval_pruner.specs.declared.Shrunk.the-variants.{Dropped, To}
 use Rattle.interval_pruner.specs.declared.Zeros.{Zeros}
 use Rattle.interval_pruner.specs.Column as column
-use Rattle.interval_pruner.specs.Column.{Column, leftOf, rightOf, recorded}
-use Rattle.interval_pruner.specs.Pruner.{highest, zerosAfter, hopeless, shrunkOf}
+use Rattle.interval_pruner.specs.Column.{Column, leftError, rightError, recorded}
+use Rattle.interval_pruner.specs.Pruner.{highestZero, zerosAfter, hopeless, shrunkOf}
 use Rattle.interval_queue.specs.declared.Queue.{Queue}
 use Rattle.interval_queue.specs.declared.Popped.{Popped}
 use Rattle.interval_queue.specs.Ring.{contents, popped}
@@ -40,16 +40,16 @@ use Rattle.column_search.proofs.Count.{loops}
 use Rattle.column_search.proofs.Kept.{cut-map}
 use Rattle.column_search.proofs.Same.{recalls, same-hope, same-shrunk}
 use Rattle.column_search.proofs.Steps.{shrunk-in}
-use Rattle.interval_steps.specs.declared.Standing.{Standing}
+use Rattle.column_turns.specs.declared.interval_steps.Standing.{Standing}
 use Rattle.column_turns.specs.declared.Course.{Course}
 use Rattle.column_turns.specs.declared.Attempt.{Attempt}
-use Rattle.cut_try.specs.Lent.{tableOf, ringOf}
-use Rattle.cut_try.specs.Ready.{Whole, Trying}
-use Rattle.cut_try.specs.Try.{columnOf}
-use Rattle.interval_steps.specs.Steps.{mostTries, prunedOf}
-use Rattle.column_turns.specs.Parts.{Parting, Numbered}
+use Rattle.column_turns.specs.Lent.{tableOf, ringOf}
+use Rattle.column_turns.specs.Ready.{Whole, Trying}
+use Rattle.column_turns.specs.Try.{searchedColumn}
+use Rattle.column_turns.specs.Steps.{mostTries, prunedOf}
+use Rattle.column_turns.specs.Parts.{PartsWaiting, CutsNumbered}
 use Rattle.column_turns.specs.Course.{standingAfter, feasibleAt, firstAt, lastAt, Matches, Stands, Begun, Attempted, Attempting}
-use Rattle.cut_try.proofs.Lent.{became-enough}
+use Rattle.column_turns.proofs.Lent.{became-enough}
 use Rattle.column_turns.proofs.Places.{places-count, places-ascend, places-low}
 
 -- ---- the middle
@@ -62,19 +62,19 @@ middle-high a b h = omega arith
 
 -- ---- the zero marks name cuts of the list
 
-highest-in : (n k : ℕ) (t : Tried) → k < n → Numbered n t → Numbered n (highest k t)
-unfolding highest
+highest-in : (n k : ℕ) (t : Tried) → k < n → CutsNumbered n t → CutsNumbered n (highestZero k t)
+unfolding highestZero
 highest-in n k Nothing h g = h
 highest-in n k (Cut z) h g = omega arith
 
-pub numbered-after : (n : ℕ) (z : Zeros) (k l r : ℕ) → k < n → Numbered n (z .left) → Numbered n (zerosAfter z k l r .left)
+pub numbered-after : (n : ℕ) (z : Zeros) (k l r : ℕ) → k < n → CutsNumbered n (z .left) → CutsNumbered n (zerosAfter z k l r .left)
 unfolding zerosAfter
-numbered-after n z k l r h g = by-test (Numbered n) (eqb l 0) (λ _. highest-in n k (z .left) h g) (λ _. g)
+numbered-after n z k l r h g = by-test (CutsNumbered n) (eqb l 0) (λ _. highest-in n k (z .left) h g) (λ _. g)
 
-numbered-all : (c : Column) (n : ℕ) (tried : List ℕ) → All (λ k. k < n) tried → Numbered n (zerosOf c tried .left)
+numbered-all : (c : Column) (n : ℕ) (tried : List ℕ) → All (λ k. k < n) tried → CutsNumbered n (zerosOf c tried .left)
 unfolding zerosOf
 numbered-all c n [] h = tt
-numbered-all c n (k ∷ tried) h = numbered-after n (zerosOf c tried) k (leftOf c k) (rightOf c k) (h .0) (numbered-all c n tried (h .1))
+numbered-all c n (k ∷ tried) h = numbered-after n (zerosOf c tried) k (leftError c k) (rightError c k) (h .0) (numbered-all c n tried (h .1))
 
 -- ---- the feasible cuts
 
@@ -87,7 +87,7 @@ module _ (s : Sheet) (t : Terms) (c : ℕ) (whole : Whole s) (here : c < s .colu
         places-count s whole c here,
       )
 
-  pub feasible-cuts : firstAt s t c < feasibleAt s t c .end → Feasible (columnOf s t c) (firstAt s t c) (lastAt s t c)
+  pub feasible-cuts : firstAt s t c < feasibleAt s t c .end → Feasible (searchedColumn s t c) (firstAt s t c) (lastAt s t c)
   feasible-cuts some =
       record {
         full = omega arith;
@@ -112,7 +112,7 @@ module _ (size : Size) (values : List Float) (codes order cuts counts : List ℕ
   to-try = record { counts = counts; whole = attempting .whole; here = attempting .here; cut-in = middle-in; enough = attempting .enough }
 
   pub to-part : (ys : List ℕ) (tried : Attempt) → Attempted sheet (t .support) c (middle i) (course .zeros) xs ys tried
-      → Parting (size .rows) (placesOf sheet c) (tried .zeros) i (middle i) (course .queue) ys
+      → PartsWaiting (size .rows) (placesOf sheet c) (tried .zeros) i (middle i) (course .queue) ys
   to-part ys tried attempted =
       let n : length (placesOf sheet c) ≡ countOf sheet c = places-count sheet (attempting .whole) c (attempting .here) in
       let small : countOf sheet c < size .rows = attempting .whole .sound .column c (attempting .here) .cuts .count-most in
@@ -128,10 +128,10 @@ module _ (size : Size) (values : List Float) (codes order cuts counts : List ℕ
         left = cut-map (λ k. k < countOf sheet c) (λ k. k < length (placesOf sheet c)) (λ k h. omega (arith, n)) (i .left) (attempting .left);
         right = cut-map (λ k. k < countOf sheet c) (λ k. k < length (placesOf sheet c)) (λ k h. omega (arith, n)) (i .right) (attempting .right);
         zero =
-            subst (λ (z : Zeros). Numbered (length (placesOf sheet c)) (z .left)) (sym (attempted .zeros-are))
+            subst (λ (z : Zeros). CutsNumbered (length (placesOf sheet c)) (z .left)) (sym (attempted .zeros-are))
             (numbered-after (length (placesOf sheet c)) (course .zeros) (middle i) ((errorsAt sheet (t .support) c (middle i)) .0)
             ((errorsAt sheet (t .support) c (middle i)) .1) (omega (arith, n, middle-in))
-            (subst (λ (l : ℕ). Numbered l (course .zeros .left)) (sym n) (attempting .zero)));
+            (subst (λ (l : ℕ). CutsNumbered l (course .zeros .left)) (sym n) (attempting .zero)));
         sane = subst (λ (w : List ℕ). Sane w (course .queue)) (sym (attempted .lent .ring-is)) (attempting .sane);
         room = attempting .room;
       }
@@ -158,7 +158,7 @@ pruned-in col z b i = by-test (IfTo (Inside i)) (hopeless col b i) (λ _. tt) (�
 
 -- the table serves as the evaluator
 pruned-same : (col : Column) (table : List ℕ) (z : Zeros) (b : ℕ) (i : Bound) → IfCut (Agree col (recorded table)) (i .left)
-    → IfCut (Agree col (recorded table)) (i .right) → prunedOf (column.columnOf (col .places) table (col .gap) (col .small)) z b i ≡ prunedOf col z b i
+    → IfCut (Agree col (recorded table)) (i .right) → prunedOf (column.recordedColumn (col .places) table (col .gap) (col .small)) z b i ≡ prunedOf col z b i
 unfolding prunedOf
 pruned-same col table z b i l r =
     sym (λ k. pick (same-hope col (recorded table) b i l r k) Dropped (same-shrunk col (recorded table) z b i l r k))
@@ -167,19 +167,19 @@ pruned-same col table z b i l r =
 
 -- nothing is: the state stays
 pub after-none : (s : Sheet) (t : Terms) (c : ℕ) (p : Standing) (xs : List ℕ) (course : Course) (state : State) (left : Shrunk) → left ≡ Dropped
-    → Matches s t c p xs course state → Matches s t c p xs course (afterShrink (columnOf s t c) (t .bound) state (state .queue) left)
+    → Matches s t c p xs course state → Matches s t c p xs course (afterShrink (searchedColumn s t c) (t .bound) state (state .queue) left)
 unfolding afterShrink standingAfter
 after-none s t c p xs course state left e matches =
-    subst (λ (z : Shrunk). Matches s t c p xs course (afterShrink (columnOf s t c) (t .bound) state (state .queue) z)) (sym e)
+    subst (λ (z : Shrunk). Matches s t c p xs course (afterShrink (searchedColumn s t c) (t .bound) state (state .queue) z)) (sym e)
     (record { standing = matches .standing; zeros = matches .zeros; queue = matches .queue; sane = matches .sane; agrees = matches .agrees })
 
 -- an interval is: it is tried
 pub after-some : (s : Sheet) (t : Terms) (c : ℕ) (p : Standing) (xs : List ℕ) (course : Course) (state : State) (left : Shrunk) (j : Bound) → left ≡ To j
-    → Matches s t c p xs course (tryCut (columnOf s t c) (t .bound) state (state .queue) j)
-    → Matches s t c p xs course (afterShrink (columnOf s t c) (t .bound) state (state .queue) left)
+    → Matches s t c p xs course (tryCut (searchedColumn s t c) (t .bound) state (state .queue) j)
+    → Matches s t c p xs course (afterShrink (searchedColumn s t c) (t .bound) state (state .queue) left)
 unfolding afterShrink
 after-some s t c p xs course state left j e matches =
-    subst (λ (z : Shrunk). Matches s t c p xs course (afterShrink (columnOf s t c) (t .bound) state (state .queue) z)) (sym e) matches
+    subst (λ (z : Shrunk). Matches s t c p xs course (afterShrink (searchedColumn s t c) (t .bound) state (state .queue) z)) (sym e) matches
 
 -- the queue of the state itself is not looked at
 after-dropped : (col : Column) (bound : ℕ) (state : State) (rest : List Bound) (left : Shrunk)
@@ -197,7 +197,7 @@ length-contents words q = length-table _ (q .waiting)
 module _ (s : Sheet) (t : Terms) (c : ℕ) (xs : List ℕ) (course : Course) (begun : Begun s t c xs) (waits : 0 < course .queue .waiting)
     (p : Standing) (stands : Stands s t c p xs course) (b : Bound) (others : Queue) (taken : record { bound = b; queue = others } ≡ popped (ringOf (s .rows) xs) (course .queue)) where
   abbrev col : Column
-  col = columnOf s t c
+  col = searchedColumn s t c
 
   abbrev state : State
   state = stands .state
@@ -238,10 +238,10 @@ module _ (s : Sheet) (t : Terms) (c : ℕ) (xs : List ℕ) (course : Course) (be
   current = ap (λ (z : Standing). z .error) (stands .matches .standing)
 
   -- what the code prunes is what the definition prunes
-  pub pruned-is : prunedOf (column.columnOf (placesOf s c) (tableOf (s .rows) xs) (t .gap) (leb (t .support) 1)) (course .zeros) (min (course .standing .error) (t .bound)) b
+  pub pruned-is : prunedOf (column.recordedColumn (placesOf s c) (tableOf (s .rows) xs) (t .gap) (leb (t .support) 1)) (course .zeros) (min (course .standing .error) (t .bound)) b
       ≡ prunedOf col (zerosOf col (state .tried)) (limit (t .bound) (state .error)) b
   pruned-is =
-      (λ k. prunedOf (column.columnOf (placesOf s c) (tableOf (s .rows) xs) (t .gap) (leb (t .support) 1)) (stands .matches .zeros k) (min (current k) (t .bound)) b)
+      (λ k. prunedOf (column.recordedColumn (placesOf s c) (tableOf (s .rows) xs) (t .gap) (leb (t .support) 1)) (stands .matches .zeros k) (min (current k) (t .bound)) b)
       ∙ pruned-same col (tableOf (s .rows) xs) (zerosOf col (state .tried)) (limit (t .bound) (state .error)) b (recalled .0) (recalled .1)
 
   turn-is : (left : Shrunk) → prunedOf col (zerosOf col (state .tried)) (limit (t .bound) (state .error)) b ≡ left
@@ -318,7 +318,7 @@ module _ (s : Sheet) (t : Terms) (c : ℕ) (xs : List ℕ) (course : Course) (be
             (cut-map (λ k. (b .last ≤ k) × Seen col (firstAt s t c) (lastAt s t c) (limit (t .bound) (state .error)) (state .tried) k) (λ k. k < countOf s c)
             (λ k h. seen-in k (h .1)) (b .right) (waiting-head .right));
         zero =
-            subst (λ (z : Zeros). Numbered (countOf s c) (z .left)) (sym (stands .matches .zeros))
+            subst (λ (z : Zeros). CutsNumbered (countOf s c) (z .left)) (sym (stands .matches .zeros))
             (numbered-all col (countOf s c) (state .tried)
             (all-map (Seen col (firstAt s t c) (lastAt s t c) (limit (t .bound) (state .error)) (state .tried)) (λ k. k < countOf s c) seen-in (state .tried)
             (stands .running .kept .tried)));

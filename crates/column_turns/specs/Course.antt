@@ -9,7 +9,7 @@ use Rattle.basics.specs.Choice.{pick}
 use Rattle.basics.specs.Lists.{All}
 use Rattle.sheet.specs.declared.Terms.{Terms}
 use Rattle.sheet.specs.Limits.{mostColumns}
-use Rattle.sheet.specs.Sheet.{Sheet, countOf, placesOf}
+use Rattle.sheet.specs.Sheet.{Sheet, countOf, beforeCuts}
 use Rattle.cuts.specs.declared.Run.{Run}
 use Rattle.cuts.specs.Feasible.{feasibleOf}
 use Rattle.leaves_score.specs.Root.{errorsAt}
@@ -20,19 +20,19 @@ use Rattle.interval_pruner.specs.Column.{recorded}
 use Rattle.interval_pruner.specs.Pruner.{zerosAfter, recordedAfter}
 use Rattle.interval_queue.specs.Ring.{contents}
 use Rattle.interval_queue.specs.Laws.{Sane}
-use Rattle.column_search.specs.Search.{State, zerosOf, columnRun, triedOf}
+use Rattle.column_search.specs.Search.{State, zerosOf, columnRun, triesOf}
 use Rattle.column_search.specs.Laws.{Agree, IfCut}
 use Rattle.column_search.specs.Loop.{Running}
-use Rattle.interval_steps.specs.declared.Held.{Held}
-use Rattle.interval_steps.specs.declared.Held.the-variants.{Rule}
-use Rattle.interval_steps.specs.declared.Standing.{Standing}
+use Rattle.column_turns.specs.declared.interval_steps.Held.{Held}
+use Rattle.column_turns.specs.declared.interval_steps.Held.the-variants.{Rule}
+use Rattle.column_turns.specs.declared.interval_steps.Standing.{Standing}
 use Rattle.column_turns.specs.declared.Course.{Course}
 use Rattle.column_turns.specs.declared.Attempt.{Attempt}
-use Rattle.interval_steps.specs.Steps.{mostTries}
-use Rattle.column_turns.specs.Parts.{Numbered}
-use Rattle.cut_try.specs.Lent.{tableOf, ringOf, Enough, Became}
-use Rattle.cut_try.specs.Ready.{Whole}
-use Rattle.cut_try.specs.Try.{columnOf, treeAt, triedTree}
+use Rattle.column_turns.specs.Steps.{mostTries}
+use Rattle.column_turns.specs.Parts.{CutsNumbered}
+use Rattle.column_turns.specs.Lent.{tableOf, ringOf, Enough, Became}
+use Rattle.column_turns.specs.Ready.{Whole}
+use Rattle.column_turns.specs.Try.{searchedColumn, treeAt, triedTree}
 
 -- ---- after a run of a column
 
@@ -43,13 +43,13 @@ heldAfter s support c (some k) error held = Rule (treeAt s support c k error)
 
 unfoldable pub standingAfter : Sheet → ℕ → ℕ → Standing → State → Standing
 standingAfter s support c p run =
-    record { error = run .error; tried = p .tried + triedOf run; held = heldAfter s support c (run .best) (run .error) (p .held) }
+    record { error = run .error; tried = p .tried + triesOf run; held = heldAfter s support c (run .best) (run .error) (p .held) }
 
 -- ---- within a column
 
 -- the feasible cuts' numbers
 abbrev pub feasibleAt : Sheet → Terms → ℕ → Run
-feasibleAt s t c = feasibleOf (placesOf s c) (s .rows) (t .support)
+feasibleAt s t c = feasibleOf (beforeCuts s c) (s .rows) (t .support)
 
 abbrev pub firstAt : Sheet → Terms → ℕ → ℕ
 firstAt s t c = feasibleAt s t c .first
@@ -60,15 +60,15 @@ lastAt s t c = feasibleAt s t c .end - 1
 -- the code's state in a column that was begun with p, for the definition's
 pub record Matches (s : Sheet) (t : Terms) (c : ℕ) (p : Standing) (scratch : List ℕ) (course : Course) (state : State) : Type 0 where
   pub standing : course .standing ≡ standingAfter s (t .support) c p state
-  pub zeros : course .zeros ≡ zerosOf (columnOf s t c) (state .tried)
+  pub zeros : course .zeros ≡ zerosOf (searchedColumn s t c) (state .tried)
   pub queue : contents (ringOf (s .rows) scratch) (course .queue) ≡ state .queue
   pub sane : Sane (ringOf (s .rows) scratch) (course .queue)
-  pub agrees : All (Agree (columnOf s t c) (recorded (tableOf (s .rows) scratch))) (state .tried)
+  pub agrees : All (Agree (searchedColumn s t c) (recorded (tableOf (s .rows) scratch))) (state .tried)
 
 -- and that state is one of the column's run
 pub record Stands (s : Sheet) (t : Terms) (c : ℕ) (p : Standing) (scratch : List ℕ) (course : Course) : Type 0 where
   pub state : State
-  pub running : Running (columnOf s t c) (t .bound) (firstAt s t c) (lastAt s t c) (p .error) state
+  pub running : Running (searchedColumn s t c) (t .bound) (firstAt s t c) (lastAt s t c) (p .error) state
   pub matches : Matches s t c p scratch course state
 
 -- an accepted sheet, a column of it with feasible cuts, and scratch enough
@@ -105,7 +105,7 @@ pub record Attempting (s : Sheet) (t : Terms) (c : ℕ) (scratch : List ℕ) (co
   pub till : i .last < countOf s c
   pub left : IfCut (λ k. k < countOf s c) (i .left)
   pub right : IfCut (λ k. k < countOf s c) (i .right)
-  pub zero : Numbered (countOf s c) (course .zeros .left)
+  pub zero : CutsNumbered (countOf s c) (course .zeros .left)
   pub sane : Sane (ringOf (s .rows) scratch) (course .queue)
   pub room : course .queue .waiting + 2 ≤ s .rows
 
@@ -134,5 +134,5 @@ pub record Searching (s : Sheet) (c : ℕ) (standing : Standing) (scratch : List
 unfoldable pub columnAfter : Sheet → Terms → ℕ → Standing → Standing
 columnAfter s t c p =
     pick (ltb (firstAt s t c) (feasibleAt s t c .end))
-    (standingAfter s (t .support) c p (columnRun (columnOf s t c) (t .bound) (firstAt s t c) (lastAt s t c) (p .error)))
+    (standingAfter s (t .support) c p (columnRun (searchedColumn s t c) (t .bound) (firstAt s t c) (lastAt s t c) (p .error)))
     p

@@ -16,19 +16,19 @@ use Rattle.interval_pruner.specs.Column as column
 use Rattle.interval_pruner.specs.Pruner.{partsOf, Held as HeldCut}
 use Rattle.interval_queue.specs.declared.Queue.{Queue}
 use Rattle.interval_queue.specs.Ring.{contents}
-use Rattle.interval_queue.specs.Laws.{Sane, Small}
+use Rattle.interval_queue.specs.Laws.{Sane, SmallBound}
 use Rattle.column_search.specs.Search.{part, upperPart, lowerPart}
 use Rattle.column_search.specs.Laws.{IfCut}
-use Rattle.cut_try.specs.Lent.{ringOf, Enough}
+use Rattle.column_turns.specs.Lent.{ringOf, Enough}
 
 -- a cut of a list of n, if there is one
-abbrev pub Numbered : ℕ → Tried → Type 0
-Numbered n t = HeldCut (λ k. k < n) t
+abbrev pub CutsNumbered : ℕ → Tried → Type 0
+CutsNumbered n t = HeldCut (λ k. k < n) t
 
 -- step 5 by the cuts' places, for a try of that error
 unfoldable pub partsQueued : List ℕ → ℕ → Bool → Zeros → ℕ → ℕ → Bound → List Bound
 partsQueued places gap small z excess m i =
-    let p : Parts = partsOf (column.columnOf places [] gap small) z excess m (i .first) in
+    let p : Parts = partsOf (column.recordedColumn places [] gap small) z excess m (i .first) in
     pick (eqb (i .first) (i .last)) [] (part (upperPart i m (p .upper)) ++ part (lowerPart i m (p .lower)))
 
 -- a part that can be queued, if it is not empty
@@ -36,7 +36,7 @@ pub record Pushing (rows : ℕ) (scratch : List ℕ) (queue : Queue) (i : Bound)
   pub enough : Enough rows scratch
   pub sane : Sane (ringOf rows scratch) queue
   pub room : queue .waiting < rows
-  pub small : i .first ≤ i .last → Small i
+  pub small : i .first ≤ i .last → SmallBound i
 
 -- one more interval in the queue, at its end
 pub record Queued (rows : ℕ) (was scratch : List ℕ) (queue after : Queue) (more : List Bound) : Type 0 where
@@ -45,7 +45,7 @@ pub record Queued (rows : ℕ) (was scratch : List ℕ) (queue after : Queue) (m
   pub waiting : after .waiting ≤ queue .waiting + length more
 
 -- an interval of listed cuts, with remembered cuts of the list, whose middle is tried
-pub record Parting (rows : ℕ) (places : List ℕ) (zeros : Zeros) (i : Bound) (cut : ℕ) (queue : Queue) (scratch : List ℕ) : Type 0 where
+pub record PartsWaiting (rows : ℕ) (places : List ℕ) (zeros : Zeros) (i : Bound) (cut : ℕ) (queue : Queue) (scratch : List ℕ) : Type 0 where
   pub enough : Enough rows scratch
   pub listed : length places ≤ mostRows
   pub ascending : Ascending places
@@ -56,6 +56,6 @@ pub record Parting (rows : ℕ) (places : List ℕ) (zeros : Zeros) (i : Bound) 
   pub placed : 1 ≤ place places cut
   pub left : IfCut (λ k. k < length places) (i .left)
   pub right : IfCut (λ k. k < length places) (i .right)
-  pub zero : Numbered (length places) (zeros .left)
+  pub zero : CutsNumbered (length places) (zeros .left)
   pub sane : Sane (ringOf rows scratch) queue
   pub room : queue .waiting + 2 ≤ rows

@@ -1,17 +1,20 @@
 // The search of one column, turn by turn (depth2.rs): the first interval that waits is pruned, its middle cut tried, and what is left of it waits in parts.
-use cut_try::MARKS;
-use cut_try::RING;
-use feasible_cuts::support_feasible_splits;
+pub mod cut_try;
+pub mod interval_steps;
+
+use crate::cut_try::MARKS;
+use crate::cut_try::RING;
+use crate::interval_steps::Reach;
+use crate::interval_steps::Standing;
+use basics::wide_entry;
+use basics::wide_word;
+use cuts::feasible_cuts::support_feasible_splits;
 use interval_pruner::Bound;
 use interval_pruner::Shrunk;
 use interval_pruner::Tried;
 use interval_pruner::Zeros;
 use interval_queue::Popped;
 use interval_queue::Queue;
-use interval_steps::Reach;
-use interval_steps::Standing;
-use numbers::wide_entry;
-use numbers::wide_word;
 use sheet::Size;
 use sheet::Terms;
 use tree::Tree;
@@ -21,8 +24,8 @@ ghost use Rattle.basics.specs.Choice.{pick};
 ghost use Rattle.interval_queue.specs.Ring.{contents, popped, pushed, pushedWords};
 ghost use Rattle.interval_queue.specs.Laws.{Sane};
 ghost use Rattle.column_search.specs.Search.{part, upperPart, lowerPart, State, tryCut, afterShrink, columnRun};
-ghost use Rattle.cut_try.specs.Lent.{tableOf, ringOf, Enough, Became};
-ghost use Rattle.column_turns.specs.Parts.{Parting, Pushing, Queued, partsQueued};
+ghost use Rattle.column_turns.specs.Lent.{tableOf, ringOf, Enough, Became};
+ghost use Rattle.column_turns.specs.Parts.{PartsWaiting, Pushing, Queued, partsQueued};
 ghost use Prim.Native.Nat.{ℕ, _≤_, _<_};
 ghost use lib.Ieee.{Float};
 ghost use Rattle.sheet.specs.Check.{sheetOf};
@@ -30,12 +33,12 @@ ghost use Rattle.basics.specs.Lists.{total};
 ghost use Rattle.sheet.specs.Limits.{mostRows};
 ghost use Rattle.sheet.specs.Sheet.{placesOf};
 ghost use Rattle.interval_pruner.specs.Pruner.{zerosAfter, recordedAfter};
-ghost use Rattle.interval_steps.specs.declared.Standing.{Standing};
+ghost use Rattle.column_turns.specs.declared.interval_steps.Standing.{Standing};
 ghost use Rattle.column_search.specs.Laws.{IfTo};
 ghost use Rattle.column_search.specs.Loop.{weight};
-ghost use Rattle.cut_try.specs.Try.{columnOf as columnIn};
+ghost use Rattle.column_turns.specs.Try.{searchedColumn};
 ghost use Rattle.column_turns.specs.Course.{Attempted, Matches, Stands, Turning, Attempting, standingAfter, Opened, Entering, Searching, columnAfter};
-ghost use Rattle.cut_try.specs.Ready.{Trying, PlacedIn};
+ghost use Rattle.column_turns.specs.Ready.{Trying, PlacedIn};
 
 // The first interval that waits.
 fn next_interval(rows: usize, queue: Queue, scratch: &[u32]) -> Popped
@@ -107,14 +110,14 @@ fn queue_parts(
     queue: Queue,
     scratch: &mut [u32],
 ) -> Queue
-    requires { ⌜ Parting rows (now places) zeros bound cut queue (now scratch) ⌝ }
+    requires { ⌜ PartsWaiting rows (now places) zeros bound cut queue (now scratch) ⌝ }
     ensures { λ r. ⌜ Queued rows (now (scratch .entry)) (now (scratch .exit)) queue r (partsQueued (now (places .entry)) (reach .gap) (reach .small) zeros (reach .excess) cut bound) ⌝ }
     ensures lent { λ _. ⌜ Became rows (now (scratch .entry)) (now (scratch .exit)) (tableOf rows (now (scratch .entry))) (ringOf rows (now (scratch .exit))) ⌝ }
 {
     if bound.first == bound.last {
         return queue;
     }
-    let parts = neighbourhood_pruning::neighbourhood_pruning(
+    let parts = interval_pruner::neighbourhood_pruning::neighbourhood_pruning(
         places,
         zeros,
         reach.gap,
@@ -141,7 +144,7 @@ fn next_queue(
     queue: Queue,
     scratch: &mut [u32],
 ) -> Queue
-    requires { ⌜ Parting rows (now places) zeros bound cut queue (now scratch) ⌝ }
+    requires { ⌜ PartsWaiting rows (now places) zeros bound cut queue (now scratch) ⌝ }
     ensures { λ r. ⌜ contents (ringOf rows (now (scratch .exit))) r ≡ pick over [] (contents (ringOf rows (now (scratch .entry))) queue ++ partsQueued (now (places .entry)) (reach .gap) (reach .small) zeros (reach .excess) cut bound) ⌝ }
     ensures sane { λ r. ⌜ Sane (ringOf rows (now (scratch .exit))) r ⌝ }
     ensures lent { λ _. ⌜ Became rows (now (scratch .entry)) (now (scratch .exit)) (tableOf rows (now (scratch .entry))) (ringOf rows (now (scratch .exit))) ⌝ }
@@ -219,7 +222,7 @@ fn try_and_keep(
     ensures { λ r. ⌜ ((counts : List ℕ) → Attempted (sheetOf size (now (values .entry)) (now (codes .entry)) (now (order .entry)) (now (cuts .entry)) counts) support (at .column) (at .cut) zeros (now (scratch .entry)) (now (scratch .exit)) r) ⌝ }
 {
     let rows = size.rows;
-    let tree = cut_try::try_cut(
+    let tree = crate::cut_try::try_cut(
         size,
         support,
         values,
@@ -236,8 +239,8 @@ fn try_and_keep(
         rows,
         zeros,
         at.cut,
-        cut_try::side_error(left),
-        cut_try::side_error(right),
+        crate::cut_try::side_error(left),
+        crate::cut_try::side_error(right),
         scratch,
     );
     Attempt { tree, zeros: marks }
@@ -258,7 +261,7 @@ fn try_interval(
     scratch: &mut [u32],
 ) -> Course
     requires { ⌜ Attempting (sheetOf size (now values) (now codes) (now order) (now cuts) (now counts)) terms column (now scratch) course bound ⌝ }
-    ensures { λ r. ⌜ ((p : Standing) (state : State) → Matches (sheetOf size (now (values .entry)) (now (codes .entry)) (now (order .entry)) (now (cuts .entry)) (now (counts .entry))) terms column p (now (scratch .entry)) course state → Matches (sheetOf size (now (values .entry)) (now (codes .entry)) (now (order .entry)) (now (cuts .entry)) (now (counts .entry))) terms column p (now (scratch .exit)) r (tryCut (columnIn (sheetOf size (now (values .entry)) (now (codes .entry)) (now (order .entry)) (now (cuts .entry)) (now (counts .entry))) terms column) (terms .bound) state (state .queue) bound)) ⌝ }
+    ensures { λ r. ⌜ ((p : Standing) (state : State) → Matches (sheetOf size (now (values .entry)) (now (codes .entry)) (now (order .entry)) (now (cuts .entry)) (now (counts .entry))) terms column p (now (scratch .entry)) course state → Matches (sheetOf size (now (values .entry)) (now (codes .entry)) (now (order .entry)) (now (cuts .entry)) (now (counts .entry))) terms column p (now (scratch .exit)) r (tryCut (searchedColumn (sheetOf size (now (values .entry)) (now (codes .entry)) (now (order .entry)) (now (cuts .entry)) (now (counts .entry))) terms column) (terms .bound) state (state .queue) bound)) ⌝ }
     ensures lent { λ r. ⌜ Became (size .rows) (now (scratch .entry)) (now (scratch .exit)) (tableOf (size .rows) (now (scratch .exit))) (ringOf (size .rows) (now (scratch .exit))) ⌝ }
 {
     let rows = size.rows;
@@ -271,9 +274,9 @@ fn try_interval(
     let tried = try_and_keep(size, support, values, codes, order, cuts, at, was, scratch);
     let tree = tried.tree;
     let zeros = tried.zeros;
-    let next = interval_steps::improved(standing, tree);
-    let over = interval_steps::ends_column(tree.error, standing.error);
-    let reach = interval_steps::reach_of(terms, tree.error, next.error);
+    let next = crate::interval_steps::improved(standing, tree);
+    let over = crate::interval_steps::ends_column(tree.error, standing.error);
+    let reach = crate::interval_steps::reach_of(terms, tree.error, next.error);
     let places = places_of(size, cuts, counts, column);
     let waiting = next_queue(rows, places, reach, zeros, over, bound, cut, queue, scratch);
     Course {
@@ -298,7 +301,7 @@ fn try_shrunk(
     scratch: &mut [u32],
 ) -> Course
     requires { ⌜ IfTo (Attempting (sheetOf size (now values) (now codes) (now order) (now cuts) (now counts)) terms column (now scratch) course) shrunk ⌝ }
-    ensures { λ r. ⌜ ((p : Standing) (state : State) → Matches (sheetOf size (now (values .entry)) (now (codes .entry)) (now (order .entry)) (now (cuts .entry)) (now (counts .entry))) terms column p (now (scratch .entry)) course state → Matches (sheetOf size (now (values .entry)) (now (codes .entry)) (now (order .entry)) (now (cuts .entry)) (now (counts .entry))) terms column p (now (scratch .exit)) r (afterShrink (columnIn (sheetOf size (now (values .entry)) (now (codes .entry)) (now (order .entry)) (now (cuts .entry)) (now (counts .entry))) terms column) (terms .bound) state (state .queue) shrunk)) ⌝ }
+    ensures { λ r. ⌜ ((p : Standing) (state : State) → Matches (sheetOf size (now (values .entry)) (now (codes .entry)) (now (order .entry)) (now (cuts .entry)) (now (counts .entry))) terms column p (now (scratch .entry)) course state → Matches (sheetOf size (now (values .entry)) (now (codes .entry)) (now (order .entry)) (now (cuts .entry)) (now (counts .entry))) terms column p (now (scratch .exit)) r (afterShrink (searchedColumn (sheetOf size (now (values .entry)) (now (codes .entry)) (now (order .entry)) (now (cuts .entry)) (now (counts .entry))) terms column) (terms .bound) state (state .queue) shrunk)) ⌝ }
     ensures lent { λ r. ⌜ Became (size .rows) (now (scratch .entry)) (now (scratch .exit)) (tableOf (size .rows) (now (scratch .exit))) (ringOf (size .rows) (now (scratch .exit))) ⌝ }
 {
     let Shrunk::To(left) = shrunk else {
@@ -342,7 +345,15 @@ fn turn(
     let popped = next_interval(size.rows, course.queue, scratch);
     let bound = popped.bound;
     let places = places_of(size, cuts, counts, column);
-    let pruned = interval_steps::prune(size.rows, terms, places, zeros, bound, error, scratch);
+    let pruned = crate::interval_steps::prune(
+        size.rows,
+        terms,
+        places,
+        zeros,
+        bound,
+        error,
+        scratch,
+    );
     let others = popped.queue;
     course.queue = others;
     try_shrunk(
@@ -412,7 +423,7 @@ fn run_column(
     scratch: &mut [u32],
 ) -> Standing
     requires { ⌜ Entering (sheetOf size (now values) (now codes) (now order) (now cuts) (now counts)) terms column first last standing (now scratch) ⌝ }
-    ensures { λ r. ⌜ r ≡ standingAfter (sheetOf size (now (values .entry)) (now (codes .entry)) (now (order .entry)) (now (cuts .entry)) (now (counts .entry))) (terms .support) column standing (columnRun (columnIn (sheetOf size (now (values .entry)) (now (codes .entry)) (now (order .entry)) (now (cuts .entry)) (now (counts .entry))) terms column) (terms .bound) first last (standing .error)) ⌝ }
+    ensures { λ r. ⌜ r ≡ standingAfter (sheetOf size (now (values .entry)) (now (codes .entry)) (now (order .entry)) (now (cuts .entry)) (now (counts .entry))) (terms .support) column standing (columnRun (searchedColumn (sheetOf size (now (values .entry)) (now (codes .entry)) (now (order .entry)) (now (cuts .entry)) (now (counts .entry))) terms column) (terms .bound) first last (standing .error)) ⌝ }
     ensures lent { λ _. ⌜ Became (size .rows) (now (scratch .entry)) (now (scratch .exit)) (tableOf (size .rows) (now (scratch .exit))) (ringOf (size .rows) (now (scratch .exit))) ⌝ }
 {
     let mut course = begin_column(size.rows, first, last, standing, scratch);

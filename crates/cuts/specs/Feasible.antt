@@ -30,3 +30,7 @@ pub record Exactly (places : List ℕ) (rows support : ℕ) (run : Run) : Type 0
 abbrev pub FeasibleExactly : Type 0
 FeasibleExactly =
     (places : List ℕ) (rows support : ℕ) → Ascending places → Exactly places rows support (feasibleOf places rows support)
+
+-- a run r of cut numbers: inside the list, whatever it holds; on an ascending list the feasible ones
+abbrev pub FeasibleRun : List ℕ → ℕ → ℕ → Run → Type 0
+FeasibleRun places rows support r = ((r .first ≤ r .end) × (r .end ≤ length places)) × (Ascending places → r ≡ feasibleOf places rows support)

@@ -1,7 +1,7 @@
 -- Lookups in one column's cut list, by a plain walk: the first cut placed at or above a value, the first cut placed above it.
--- A cut is named by its number, from 0; `places` has the cuts' places. Definitions only.
+-- A cut is named by its number, from 0; `places` has the cuts' places, each as many as the rows before the cut. Definitions only.
 use mathlib.Core.Path.{_≡_}
-use Prim.Native.Nat.{ℕ, suc, _-_, _≤_, _<_, min, max}
+use Prim.Native.Nat.{ℕ, suc, _-_, _≤_, _<_, _^_, min, max}
 use mathlib.Core.Bool.{Bool}
 use mathlib.Core.List.{List}
 use lib.ListN.{length, getD}
@@ -46,3 +46,7 @@ upperBoundOf places first last value = soughtFrom (above places value) places fi
 -- a lookup's answer r: from `first` to one past the last cut that is looked at, whatever the list; on an ascending list the cut that is sought
 abbrev pub Sought : List ℕ → ℕ → ℕ → ℕ → ℕ → Type 0
 Sought places first last sought r = ((first ≤ r) × (r ≤ max first (endOf places first last))) × (Ascending places → r ≡ sought)
+
+-- a place read from a list of 16-bit entries
+abbrev pub PlaceRead : List ℕ → ℕ → ℕ → Type 0
+PlaceRead places k r = (r ≡ place places k) × (r < 2 ^ 16)

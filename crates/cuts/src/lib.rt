@@ -1,10 +1,12 @@
 // Lookups in the list of one column's cuts.
+pub mod feasible_cuts;
+
 ghost use mathlib.Core.Path.{_≡_};
-ghost use Prim.Native.Nat.{_-_, _^_, _≤_, _<_, max};
+ghost use Prim.Native.Nat.{_-_, _≤_, max};
 ghost use lib.ListN.{length};
 ghost use Rattle.basics.specs.Walk.{walk};
-ghost use Rattle.cuts.specs.Lookups.{place, Ascending, Sought, above, endOf, lowerBoundOf, upperBoundOf};
-use numbers::wide_entry;
+ghost use Rattle.cuts.specs.Lookups.{Ascending, Sought, above, endOf, lowerBoundOf, upperBoundOf, PlaceRead};
+use basics::wide_entry;
 
 // A run of cut numbers, from `first` up to and without `end`; none where the two are equal.
 pub struct Run {
@@ -19,8 +21,7 @@ pub struct CutReader<'a> {
 
 // Where cut number k stands; 0 for a number past the list.
 pub fn place_at(cuts: &[u16], k: usize) -> usize
-    ensures { λ r. ⌜ r ≡ place (now (cuts .entry)) k ⌝ }
-    ensures fits { λ r. ⌜ r < 2 ^ 16 ⌝ }
+    ensures { λ r. ⌜ PlaceRead (now (cuts .entry)) k r ⌝ }
 {
     if k < cuts.len() {
         wide_entry(cuts[k])
@@ -30,7 +31,7 @@ pub fn place_at(cuts: &[u16], k: usize) -> usize
 }
 
 // The first cut of those from `low` up to and without `high` that is placed above `value`, `high` if none is: by halving.
-pub fn first_above(cuts: &[u16], low: usize, high: usize, value: usize) -> usize
+pub(crate) fn first_above(cuts: &[u16], low: usize, high: usize, value: usize) -> usize
     requires { ⌜ high ≤ length (now cuts) ⌝ }
     ensures inside { λ r. ⌜ (low ≤ r) × (r ≤ max low high) ⌝ }
     ensures found { λ r. ⌜ (Ascending (now (cuts .entry)) → r ≡ walk (above (now (cuts .entry)) value) (high - low) low) ⌝ }

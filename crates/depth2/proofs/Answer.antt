@@ -11,8 +11,8 @@ use Rattle.sheet.specs.declared.Checked.the-variants.{Accepted, Refused}
 use Rattle.sheet.specs.Sheet.{Sheet}
 use Rattle.sheet.specs.Check.{checkOf}
 use Rattle.tree.specs.declared.Answer.the-variants.{TurnedBack}
-use Rattle.interval_steps.specs.declared.Standing.{Standing}
-use Rattle.depth2.specs.Search.{Progress, searched, answerOf, answerAfter, searchOf}
+use Rattle.column_turns.specs.declared.interval_steps.Standing.{Standing}
+use Rattle.depth2.specs.Search.{Progress, searched, answerHolding, answerAfter, searchOf}
 use Rattle.depth2.specs.Columns.{heldOf, standingOf, answerHeld}
 
 -- a refused sheet is turned back by the check's number and place
@@ -21,8 +21,8 @@ unfolding searchOf answerAfter
 refused s t words number place e = sym (ap (answerAfter s t) e)
 
 held-answer : (s : Sheet) (t : Terms) (q : Progress) (best : Option (ℕ × ℕ))
-    → answerHeld (q .error) (q .tried) (heldOf s (t .support) best (q .error)) ≡ answerOf s t q best
-unfolding answerHeld heldOf answerOf
+    → answerHeld (q .error) (q .tried) (heldOf s (t .support) best (q .error)) ≡ answerHolding s t q best
+unfolding answerHeld heldOf answerHolding
 held-answer s t q none = refl
 held-answer s t q (some cut) = refl
 

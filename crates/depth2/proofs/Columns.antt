@@ -9,17 +9,17 @@ use Rattle.basics.proofs.Choice.{decide, pick-true, pick-false, nleb, reach, by
 use Rattle.sheet.specs.declared.Terms.{Terms}
 use Rattle.sheet.specs.Sheet.{Sheet}
 use Rattle.interval_pruner.specs.Column.{errorOf}
-use Rattle.column_search.specs.Search.{State, columnRun, triedOf}
+use Rattle.column_search.specs.Search.{State, columnRun, triesOf}
 use Rattle.column_search.specs.Laws.{Lowered}
 use Rattle.column_search.proofs.Count.{tries}
 use Rattle.column_search.proofs.Error.{lowers}
-use Rattle.interval_steps.specs.declared.Standing.{Standing}
-use Rattle.cut_try.specs.Ready.{Whole}
-use Rattle.cut_try.specs.Try.{columnOf}
-use Rattle.depth2.specs.Search.{Progress, bestAfter, joined, afterColumn, searchColumns, searched}
-use Rattle.interval_steps.specs.Steps.{mostTries}
+use Rattle.column_turns.specs.declared.interval_steps.Standing.{Standing}
+use Rattle.column_turns.specs.Ready.{Whole}
+use Rattle.column_turns.specs.Try.{searchedColumn}
+use Rattle.depth2.specs.Search.{Progress, cutAfter, withColumn, afterColumn, searchColumns, searched}
+use Rattle.column_turns.specs.Steps.{mostTries}
 use Rattle.column_turns.specs.Course.{heldAfter, standingAfter, feasibleAt, firstAt, lastAt, columnAfter}
-use Rattle.depth2.specs.Columns.{heldOf, standingOf, startOf, Between}
+use Rattle.depth2.specs.Columns.{heldOf, standingOf, noneTried, BetweenColumns}
 use Rattle.column_turns.proofs.Turns.{feasible-cuts, end-listed}
 
 module _ (s : Sheet) (t : Terms) (c : ℕ) (whole : Whole s) (here : c < s .columns) where
@@ -30,7 +30,7 @@ module _ (s : Sheet) (t : Terms) (c : ℕ) (whole : Whole s) (here : c < s .colu
       by-ltb (λ (z : Standing). z .tried ≤ p .tried + mostTries) (firstAt s t c) (feasibleAt s t c .end)
       (λ some. omega (
         arith,
-        tries (columnOf s t c) (t .bound) (firstAt s t c) (lastAt s t c) (p .error) (2 * (suc (lastAt s t c) - firstAt s t c)) (feasible-cuts s t c whole here some),
+        tries (searchedColumn s t c) (t .bound) (firstAt s t c) (lastAt s t c) (p .error) (2 * (suc (lastAt s t c) - firstAt s t c)) (feasible-cuts s t c whole here some),
         end-listed s t c whole here,
         whole .sound .column c here .cuts .count-most,
         whole .sound .limited .rows-most,
@@ -38,27 +38,27 @@ module _ (s : Sheet) (t : Terms) (c : ℕ) (whole : Whole s) (here : c < s .colu
       (λ none. omega arith)
 
   held-joined : (best : Option ℕ) (e error : ℕ) (old : Option (ℕ × ℕ)) → (best ≡ none → error ≡ e)
-      → heldAfter s (t .support) c best e (heldOf s (t .support) old error) ≡ heldOf s (t .support) (bestAfter c best old) e
-  unfolding heldAfter heldOf bestAfter
+      → heldAfter s (t .support) c best e (heldOf s (t .support) old error) ≡ heldOf s (t .support) (cutAfter c best old) e
+  unfolding heldAfter heldOf cutAfter
   held-joined none e error old same = ap (heldOf s (t .support) old) (same refl)
   held-joined (some k) e error old same = refl
 
-  unbettered : (error : ℕ) (run : State) → Lowered (columnOf s t c) (firstAt s t c) (lastAt s t c) error run → run .best ≡ none → error ≡ run .error
+  unbettered : (error : ℕ) (run : State) → Lowered (searchedColumn s t c) (firstAt s t c) (lastAt s t c) error run → run .best ≡ none → error ≡ run .error
   unbettered error run l e =
       reach (run .error) error (l .falls) (λ z. sym z)
-      (λ h. absurd (subst (Hit (λ k. (firstAt s t c ≤ k) × (k ≤ lastAt s t c) × (run .error ≡ errorOf (columnOf s t c) k))) e (l .named h)))
+      (λ h. absurd (subst (Hit (λ k. (firstAt s t c ≤ k) × (k ≤ lastAt s t c) × (run .error ≡ errorOf (searchedColumn s t c) k))) e (l .named h)))
 
   pub column-joined : (q : Progress) → columnAfter s t c (standingOf s (t .support) q) ≡ standingOf s (t .support) (afterColumn s t c q)
-  unfolding columnAfter afterColumn standingOf standingAfter joined
+  unfolding columnAfter afterColumn standingOf standingAfter withColumn
   column-joined q =
       decide (ltb (firstAt s t c) (feasibleAt s t c .end))
       (λ y.
-      let run : State = columnRun (columnOf s t c) (t .bound) (firstAt s t c) (lastAt s t c) (q .error) in
-      let l = lowers (columnOf s t c) (t .bound) (firstAt s t c) (lastAt s t c) (q .error) (feasible-cuts s t c whole here (ltb→lt _ _ y)) in
+      let run : State = columnRun (searchedColumn s t c) (t .bound) (firstAt s t c) (lastAt s t c) (q .error) in
+      let l = lowers (searchedColumn s t c) (t .bound) (firstAt s t c) (lastAt s t c) (q .error) (feasible-cuts s t c whole here (ltb→lt _ _ y)) in
       let h = held-joined (run .best) (run .error) (q .error) (q .best) (unbettered (q .error) run l) in
       pick-true (ltb (firstAt s t c) (feasibleAt s t c .end)) _ _ y
-      ∙ (λ k. record { error = run .error; tried = q .tried + triedOf run; held = h k })
-      ∙ sym (ap (standingOf s (t .support)) (pick-true (ltb (firstAt s t c) (feasibleAt s t c .end)) (joined c q run) q y)))
+      ∙ (λ k. record { error = run .error; tried = q .tried + triesOf run; held = h k })
+      ∙ sym (ap (standingOf s (t .support)) (pick-true (ltb (firstAt s t c) (feasibleAt s t c .end)) (withColumn c q run) q y)))
       (λ y.
       pick-false (ltb (firstAt s t c) (feasibleAt s t c .end)) _ _ y
       ∙ sym (ap (standingOf s (t .support)) (pick-false (ltb (firstAt s t c) (feasibleAt s t c .end)) _ q y)))
@@ -74,7 +74,7 @@ columns-next s t n c q h =
     ap (λ (k : ℕ). searchColumns s t k c q) a
     ∙ ap (λ (k : ℕ). pick (leb (afterColumn s t c q .error) (t .gap)) (afterColumn s t c q) (searchColumns s t (n - (c + 1)) k (afterColumn s t c q))) b
 
-pub between-start : (s : Sheet) (t : Terms) → Between s t 0 (startOf (t .error))
+pub between-start : (s : Sheet) (t : Terms) → BetweenColumns s t 0 (noneTried (t .error))
 unfolding standingOf heldOf searched
 between-start s t =
     let n : s .columns - 0 ≡ s .columns = omega arith in
@@ -85,7 +85,7 @@ between-start s t =
       few = omega arith;
     }
 
-module _ (s : Sheet) (t : Terms) (c : ℕ) (p : Standing) (whole : Whole s) (here : c < s .columns) (between : Between s t c p) where
+module _ (s : Sheet) (t : Terms) (c : ℕ) (p : Standing) (whole : Whole s) (here : c < s .columns) (between : BetweenColumns s t c p) where
   after-is : columnAfter s t c p ≡ standingOf s (t .support) (afterColumn s t c (between .progress))
   after-is = ap (columnAfter s t c) (between .standing-is) ∙ column-joined s t c whole here (between .progress)
 
@@ -93,7 +93,7 @@ module _ (s : Sheet) (t : Terms) (c : ℕ) (p : Standing) (whole : Whole s) (her
   unfolding standingOf
   error-after = ap (λ (z : Standing). z .error) after-is
 
-  pub between-next : t .gap < columnAfter s t c p .error → Between s t (c + 1) (columnAfter s t c p)
+  pub between-next : t .gap < columnAfter s t c p .error → BetweenColumns s t (c + 1) (columnAfter s t c p)
   between-next h =
       let next : Progress = afterColumn s t c (between .progress) in
       record {
@@ -116,7 +116,7 @@ module _ (s : Sheet) (t : Terms) (c : ℕ) (p : Standing) (whole : Whole s) (her
       ∙ sym (columns-next s t (s .columns) c (between .progress) here)
       ∙ between .comes)
 
-pub between-end : (s : Sheet) (t : Terms) (c : ℕ) (p : Standing) → c ≡ s .columns → Between s t c p → p ≡ standingOf s (t .support) (searched s t)
+pub between-end : (s : Sheet) (t : Terms) (c : ℕ) (p : Standing) → c ≡ s .columns → BetweenColumns s t c p → p ≡ standingOf s (t .support) (searched s t)
 unfolding searchColumns
 between-end s t c p e between =
     let n : s .columns - c ≡ 0 = omega arith in

@@ -8,19 +8,19 @@ use Rattle.basics.specs.Choice.{Hit}
 use Rattle.basics.proofs.Choice.{by-test, by-ltb, pick-true, pick-false, decide, reach, order}
 use Rattle.sheet.specs.declared.Terms.{Terms}
 use Rattle.sheet.specs.Sheet.{Sheet}
-use Rattle.interval_pruner.specs.Column.{leftOf, rightOf, errorOf}
-use Rattle.column_search.specs.Search.{State, columnRun, triedOf}
+use Rattle.interval_pruner.specs.Column.{leftError, rightError, errorOf}
+use Rattle.column_search.specs.Search.{State, columnRun, triesOf}
 use Rattle.column_search.specs.Laws.{Lowered}
 use Rattle.column_search.proofs.Count.{tries}
 use Rattle.column_search.proofs.Error.{lowers}
-use Rattle.cut_try.specs.Ready.{Whole}
+use Rattle.column_turns.specs.Ready.{Whole}
 use Rattle.leaves_score.specs.Root.{errorsAt}
 use Rattle.tree.specs.declared.Tree.{Tree}
 use Rattle.tree.specs.Answer.{sideError, ruleOf}
-use Rattle.cut_try.specs.Try.{columnOf, treeAt}
-use Rattle.depth2.specs.Search.{Progress, bestAfter, joined, afterColumn, searchColumns, searched, answerOf}
+use Rattle.column_turns.specs.Try.{searchedColumn, treeAt}
+use Rattle.depth2.specs.Search.{Progress, cutAfter, withColumn, afterColumn, searchColumns, searched, answerHolding}
 use Rattle.column_turns.specs.Course.{feasibleAt, firstAt, lastAt}
-use Rattle.depth2.specs.Laws.{feasibleCount, mostTried, TriesSummed, MakesError, Bettered, ErrorFalls, FoundExactly, OutcomesCoincide}
+use Rattle.depth2.specs.Laws.{feasibleCount, mostTried, TriesSummed, MakesError, Bettered, ErrorFalls, FoundExactly, SearchesCoincide}
 use Rattle.column_turns.proofs.Turns.{feasible-cuts}
 use Rattle.column_turns.proofs.Places.{places-count}
 
@@ -28,12 +28,12 @@ module _ (s : Sheet) (t : Terms) (whole : Whole s) where
   -- ---- tries
 
   column-tries : (c : ℕ) → c < s .columns → (p : Progress) → afterColumn s t c p .tried ≤ p .tried + (2 * feasibleCount s t c - 1)
-  unfolding afterColumn joined columnRun
+  unfolding afterColumn withColumn columnRun
   column-tries c here p =
       by-ltb (λ (z : Progress). z .tried ≤ p .tried + (2 * feasibleCount s t c - 1)) (firstAt s t c) (feasibleAt s t c .end)
       (λ some. omega (
         arith,
-        tries (columnOf s t c) (t .bound) (firstAt s t c) (lastAt s t c) (p .error) (2 * (suc (lastAt s t c) - firstAt s t c)) (feasible-cuts s t c whole here some),
+        tries (searchedColumn s t c) (t .bound) (firstAt s t c) (lastAt s t c) (p .error) (2 * (suc (lastAt s t c) - firstAt s t c)) (feasible-cuts s t c whole here some),
       ))
       (λ _. omega arith)
 
@@ -61,19 +61,19 @@ module _ (s : Sheet) (t : Terms) (whole : Whole s) where
 
   -- what `Lowers` says of the cut named best
   abbrev Best : ℕ → State → ℕ → Type 0
-  Best c run k = (firstAt s t c ≤ k) × (k ≤ lastAt s t c) × (run .error ≡ errorOf (columnOf s t c) k)
+  Best c run k = (firstAt s t c ≤ k) × (k ≤ lastAt s t c) × (run .error ≡ errorOf (searchedColumn s t c) k)
 
   found-error : (c : ℕ) → c < s .columns → firstAt s t c < feasibleAt s t c .end → (run : State) (k : ℕ) → Best c run k → MakesError s t (run .error) (c, k)
-  unfolding leftOf rightOf
+  unfolding leftError rightError
   found-error c here filled run k h = (here, omega (arith, feasible-cuts s t c whole here filled .listed, places-count s whole c here, h .1), h .2)
 
   none-some : (k : ℕ) → _≡_ {A = Option ℕ} none (some k) → ⊥
   none-some k e = let z : _≡_ {A = ℕ} 0 1 = cc in omega arith
 
   module _ (error : ℕ) where
-    named-next : (c : ℕ) → c < s .columns → firstAt s t c < feasibleAt s t c .end → (run : State) (p : Progress) → Bettered s t error p → Lowered (columnOf s t c) (firstAt s t c) (lastAt s t c) (p .error) run
-        → (best : Option ℕ) → run .best ≡ best → Bettered s t error (record { error = run .error; best = bestAfter c best (p .best); tried = p .tried + triedOf run })
-    unfolding bestAfter
+    named-next : (c : ℕ) → c < s .columns → firstAt s t c < feasibleAt s t c .end → (run : State) (p : Progress) → Bettered s t error p → Lowered (searchedColumn s t c) (firstAt s t c) (lastAt s t c) (p .error) run
+        → (best : Option ℕ) → run .best ≡ best → Bettered s t error (record { error = run .error; best = cutAfter c best (p .best); tried = p .tried + triesOf run })
+    unfolding cutAfter
     named-next c here filled run p b l none e =
         let same : p .error ≡ run .error =
         reach (run .error) (p .error) (l .falls) (λ z. sym z) (λ h. absurd (subst (Hit (Best c run)) e (l .named h))) in
@@ -89,13 +89,13 @@ module _ (s : Sheet) (t : Terms) (whole : Whole s) where
         record { falls = omega (arith, b .falls); named = λ _. is; stays = λ g. absurd (omega (arith, b .falls)) }
 
     column-bettered : (c : ℕ) → c < s .columns → (p : Progress) → Bettered s t error p → Bettered s t error (afterColumn s t c p)
-    unfolding afterColumn joined
+    unfolding afterColumn withColumn
     column-bettered c here p b =
         by-ltb (Bettered s t error) (firstAt s t c) (feasibleAt s t c .end)
         (λ some.
-        let run : State = columnRun (columnOf s t c) (t .bound) (firstAt s t c) (lastAt s t c) (p .error) in
+        let run : State = columnRun (searchedColumn s t c) (t .bound) (firstAt s t c) (lastAt s t c) (p .error) in
         named-next c here some run p b
-        (lowers (columnOf s t c) (t .bound) (firstAt s t c) (lastAt s t c) (p .error) (feasible-cuts s t c whole here some)) (run .best) refl)
+        (lowers (searchedColumn s t c) (t .bound) (firstAt s t c) (lastAt s t c) (p .error) (feasible-cuts s t c whole here some)) (run .best) refl)
         (λ _. b)
 
     columns-bettered : (n c : ℕ) (p : Progress) → c + n ≤ s .columns → Bettered s t error p → Bettered s t error (searchColumns s t n c p)
@@ -118,13 +118,13 @@ error-falls s t whole =
     (record { falls = omega arith; named = λ h. absurd (omega arith); stays = λ _. refl })
 
 rule-found : (s : Sheet) (t : Terms) (p : Progress) (best : Option (ℕ × ℕ)) → Hit (MakesError s t (p .error)) best
-    → Hit (λ (tree : Tree). (tree .error ≡ p .error) × (tree .error ≡ sideError (tree .left) + sideError (tree .right))) (ruleOf (answerOf s t p best))
-unfolding answerOf treeAt errorsAt
+    → Hit (λ (tree : Tree). (tree .error ≡ p .error) × (tree .error ≡ sideError (tree .left) + sideError (tree .right))) (ruleOf (answerHolding s t p best))
+unfolding answerHolding treeAt errorsAt
 rule-found s t p none h = h
 rule-found s t p (some cut) h = (refl, h .2)
 
-rule-none : (s : Sheet) (t : Terms) (p : Progress) → ruleOf (answerOf s t p none) ≡ none
-unfolding answerOf
+rule-none : (s : Sheet) (t : Terms) (p : Progress) → ruleOf (answerHolding s t p none) ≡ none
+unfolding answerHolding
 rule-none s t p = refl
 
 pub found-exactly : FoundExactly
@@ -133,8 +133,8 @@ found-exactly s t whole =
     let b : Bettered s t (t .error) p = error-falls s t whole in
     record {
       lower = λ h. rule-found s t p (p .best) (b .named h);
-      kept = λ h. ap (λ (o : Option (ℕ × ℕ)). ruleOf (answerOf s t p o)) (b .stays h) ∙ rule-none s t p;
+      kept = λ h. ap (λ (o : Option (ℕ × ℕ)). ruleOf (answerHolding s t p o)) (b .stays h) ∙ rule-none s t p;
     }
 
-pub outcomes-coincide : OutcomesCoincide
+pub outcomes-coincide : SearchesCoincide
 outcomes-coincide s t scratch a b after others p q = (p .answer-is ∙ sym (q .answer-is), p .lent ∙ sym (q .lent))

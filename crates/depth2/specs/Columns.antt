@@ -6,11 +6,11 @@ use Rattle.sheet.specs.declared.Terms.{Terms}
 use Rattle.sheet.specs.Sheet.{Sheet}
 use Rattle.tree.specs.declared.Answer.{Answer}
 use Rattle.tree.specs.declared.Answer.the-variants.{Kept, Found}
-use Rattle.interval_steps.specs.declared.Held.{Held}
-use Rattle.interval_steps.specs.declared.Held.the-variants.{Empty, Rule}
-use Rattle.interval_steps.specs.declared.Standing.{Standing}
-use Rattle.interval_steps.specs.Steps.{mostTries}
-use Rattle.cut_try.specs.Try.{treeAt}
+use Rattle.column_turns.specs.declared.interval_steps.Held.{Held}
+use Rattle.column_turns.specs.declared.interval_steps.Held.the-variants.{Empty, Rule}
+use Rattle.column_turns.specs.declared.interval_steps.Standing.{Standing}
+use Rattle.column_turns.specs.Steps.{mostTries}
+use Rattle.column_turns.specs.Try.{treeAt}
 use Rattle.depth2.specs.Search.{Progress, searchColumns, searched}
 
 -- the code's state for the definition's
@@ -22,8 +22,8 @@ unfoldable pub standingOf : Sheet → ℕ → Progress → Standing
 standingOf s support p = record { error = p .error; tried = p .tried; held = heldOf s support (p .best) (p .error) }
 
 -- before the first column
-abbrev pub startOf : ℕ → Standing
-startOf error = record { error = error; tried = 0; held = Empty }
+abbrev pub noneTried : ℕ → Standing
+noneTried error = record { error = error; tried = 0; held = Empty }
 
 -- what is answered
 unfoldable pub answerHeld : ℕ → ℕ → Held → Answer
@@ -31,7 +31,7 @@ answerHeld error tried Empty = Kept error tried
 answerHeld error tried (Rule tree) = Found tree tried
 
 -- before column c, the standing is that of a progress from which the definition's columns come to its end
-pub record Between (s : Sheet) (t : Terms) (c : ℕ) (standing : Standing) : Type 0 where
+pub record BetweenColumns (s : Sheet) (t : Terms) (c : ℕ) (standing : Standing) : Type 0 where
   pub progress : Progress
   pub standing-is : standing ≡ standingOf s (t .support) progress
   pub comes : searchColumns s t (s .columns - c) c progress ≡ searched s t

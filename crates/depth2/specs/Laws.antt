@@ -12,8 +12,8 @@ use Rattle.tree.specs.declared.Tree.{Tree}
 use Rattle.tree.specs.declared.Answer.{Answer}
 use Rattle.tree.specs.Answer.{sideError, ruleOf}
 use Rattle.leaves_score.specs.Root.{errorsAt}
-use Rattle.cut_try.specs.Ready.{Whole}
-use Rattle.depth2.specs.Search.{Progress, afterColumn, searched, answerOf, searchOf, scratchOf}
+use Rattle.column_turns.specs.Ready.{Whole}
+use Rattle.depth2.specs.Search.{Progress, afterColumn, searched, answerHolding, searchOf, scratchOf}
 use Rattle.column_turns.specs.Course.{feasibleAt}
 
 -- f, the number of feasible cuts of column c
@@ -57,15 +57,15 @@ pub record FoundIf (s : Sheet) (t : Terms) (p : Progress) (rule : Option Tree) :
   pub kept : t .error ≤ p .error → rule ≡ none
 
 abbrev pub FoundExactly : Type 0
-FoundExactly = (s : Sheet) (t : Terms) → Whole s → let p : Progress = searched s t in FoundIf s t p (ruleOf (answerOf s t p (p .best)))
+FoundExactly = (s : Sheet) (t : Terms) → Whole s → let p : Progress = searched s t in FoundIf s t p (ruleOf (answerHolding s t p (p .best)))
 
 -- what the contract of `search` says of an outcome
-pub record Outcome (s : Sheet) (t : Terms) (scratch : List ℕ) (answer : Answer) (after : List ℕ) : Type 0 where
+pub record SearchOutcome (s : Sheet) (t : Terms) (scratch : List ℕ) (answer : Answer) (after : List ℕ) : Type 0 where
   pub answer-is : answer ≡ searchOf s t (length scratch)
   pub lent : after ≡ scratchOf s t scratch
 
 -- "show that two outcomes fitting the contract coincide"
-abbrev pub OutcomesCoincide : Type 0
-OutcomesCoincide =
+abbrev pub SearchesCoincide : Type 0
+SearchesCoincide =
     (s : Sheet) (t : Terms) (scratch : List ℕ) (a b : Answer) (after other : List ℕ)
-    → Outcome s t scratch a after → Outcome s t scratch b other → (a ≡ b) × (after ≡ other)
+    → SearchOutcome s t scratch a after → SearchOutcome s t scratch b other → (a ≡ b) × (after ≡ other)

@@ -5,7 +5,7 @@ use mathlib.Core.List.{List}
 use lib.ListN.{length}
 use lib.Dec.{leb, ltb}
 use Rattle.basics.specs.Choice.{pick}
-use Rattle.sheet.specs.Sheet.{Sheet, placesOf}
+use Rattle.sheet.specs.Sheet.{Sheet, beforeCuts}
 use Rattle.sheet.specs.declared.Terms.{Terms}
 use Rattle.sheet.specs.declared.Checked.{Checked}
 use Rattle.sheet.specs.declared.Checked.the-variants.{Accepted, Refused}
@@ -14,8 +14,8 @@ use Rattle.tree.specs.declared.Answer.{Answer}
 use Rattle.tree.specs.declared.Answer.the-variants.{TurnedBack, Kept, Found}
 use Rattle.cuts.specs.declared.Run.{Run}
 use Rattle.cuts.specs.Feasible.{feasibleOf}
-use Rattle.column_search.specs.Search.{State, columnRun, triedOf}
-use Rattle.cut_try.specs.Try.{columnOf, treeAt}
+use Rattle.column_search.specs.Search.{State, columnRun, triesOf}
+use Rattle.column_turns.specs.Try.{searchedColumn, treeAt}
 
 -- The state between two columns: the current error, the column and number of the cut whose tree it is, if any, and the tries so far.
 pub record Progress : Type 0 where
@@ -24,18 +24,18 @@ pub record Progress : Type 0 where
   pub tried : ℕ
 
 -- "A strictly lower error replaces the tree"
-unfoldable pub bestAfter : ℕ → Option ℕ → Option (ℕ × ℕ) → Option (ℕ × ℕ)
-bestAfter c none best = best
-bestAfter c (some k) best = some (c, k)
+unfoldable pub cutAfter : ℕ → Option ℕ → Option (ℕ × ℕ) → Option (ℕ × ℕ)
+cutAfter c none best = best
+cutAfter c (some k) best = some (c, k)
 
-unfoldable pub joined : ℕ → Progress → State → Progress
-joined c p run = record { error = run .error; best = bestAfter c (run .best) (p .best); tried = p .tried + triedOf run }
+unfoldable pub withColumn : ℕ → Progress → State → Progress
+withColumn c p run = record { error = run .error; best = cutAfter c (run .best) (p .best); tried = p .tried + triesOf run }
 
 -- "One interval, the feasible cuts' numbers (from 0 in the column's list), is queued": the run of column c, if it has a feasible cut
 unfoldable pub afterColumn : Sheet → Terms → ℕ → Progress → Progress
 afterColumn s t c p =
-    let f : Run = feasibleOf (placesOf s c) (s .rows) (t .support) in
-    pick (ltb (f .first) (f .end)) (joined c p (columnRun (columnOf s t c) (t .bound) (f .first) (f .end - 1) (p .error))) p
+    let f : Run = feasibleOf (beforeCuts s c) (s .rows) (t .support) in
+    pick (ltb (f .first) (f .end)) (withColumn c p (columnRun (searchedColumn s t c) (t .bound) (f .first) (f .end - 1) (p .error))) p
 
 -- n columns from c on; "After a column, stop if the error is at most the gap."
 unfoldable pub searchColumns : Sheet → Terms → ℕ → ℕ → Progress → Progress
@@ -49,13 +49,13 @@ searchColumns s t (suc n) c p =
 unfoldable pub searched : Sheet → Terms → Progress
 searched s t = searchColumns s t (s .columns) 0 (record { error = t .error; best = none; tried = 0 })
 
-unfoldable pub answerOf : Sheet → Terms → Progress → Option (ℕ × ℕ) → Answer
-answerOf s t p none = Kept (p .error) (p .tried)
-answerOf s t p (some cut) = Found (treeAt s (t .support) (cut .0) (cut .1) (p .error)) (p .tried)
+unfoldable pub answerHolding : Sheet → Terms → Progress → Option (ℕ × ℕ) → Answer
+answerHolding s t p none = Kept (p .error) (p .tried)
+answerHolding s t p (some cut) = Found (treeAt s (t .support) (cut .0) (cut .1) (p .error)) (p .tried)
 
 unfoldable pub answerAfter : Sheet → Terms → Checked → Answer
 answerAfter s t (Refused number place) = TurnedBack number place
-answerAfter s t Accepted = let p : Progress = searched s t in answerOf s t p (p .best)
+answerAfter s t Accepted = let p : Progress = searched s t in answerHolding s t p (p .best)
 
 -- "A search answers Turned back (number, place), Kept (error, tried) or Found (error, column, threshold, two sides, tried)."
 unfoldable pub searchOf : Sheet → Terms → ℕ → Answer

@@ -10,6 +10,8 @@ use Rattle.threshold.specs.Threshold.{thresholdOf}
 use Rattle.sheet.specs.Limits.{mostError, wordsPerRow}
 use Rattle.sheet.specs.Sheet.{Sheet}
 use Rattle.sheet.specs.declared.Terms.{Terms}
+use Rattle.tree.specs.declared.Leaf as leaf
+use Rattle.tree.specs.declared.Question.{Question}
 use Rattle.tree.specs.declared.Side.the-variants.{Leaf, Split}
 use Rattle.tree.specs.declared.Answer.{Answer}
 use Rattle.tree.specs.declared.Answer.the-variants.{Kept, Found}
@@ -79,6 +81,13 @@ twoRows =
 abbrev pub terms : ℕ → ℕ → ℕ → ℕ → Terms
 terms support gap error bound = record { support = support; gap = gap; error = error; bound = bound }
 
+-- a question about column 0, which every sheet here has alone; and a leaf's label and error
+abbrev asks : Float → Question
+asks value = record { column = 0; threshold = value }
+
+abbrev says : ℕ → ℕ → leaf.Leaf
+says label error = record { label = label; error = error }
+
 unfoldable pub tableT : List Entry
 tableT =
     -- "T1: 1.0, 2.0 gives 1.5."
@@ -91,7 +100,7 @@ tableT =
     ∷ threshold 1 2 1
     -- "T5: the four-row sheet."
     ∷ search fourRows (terms 1 0 2 mostError)
-    (Found (record { error = 0; column = 0; threshold = twoAndHalf; left = Split 0 oneAndHalf 0 1 0 0; right = Split 0 threeAndHalf 0 1 0 0 }) 1)
+    (Found (record { question = asks twoAndHalf; left = Split (asks oneAndHalf) (says 0 0) (says 1 0); right = Split (asks threeAndHalf) (says 0 0) (says 1 0); error = 0 }) 1)
     -- "T6: it with gap 2: KEPT error=2 tried=0."
     ∷ search fourRows (terms 1 2 2 mostError) (Kept 2 0)
     -- "T7: it with bound 0: the same."
@@ -99,12 +108,12 @@ tableT =
     -- "T8: it with support 2: KEPT error=2 tried=1; with starting error 3 too: FOUND error 2 at 2.5, both leaves label 0 error 1."
     ∷ search fourRows (terms 2 0 2 mostError) (Kept 2 1)
     ∷ search fourRows (terms 2 0 3 mostError)
-    (Found (record { error = 2; column = 0; threshold = twoAndHalf; left = Leaf 0 1; right = Leaf 0 1 }) 1)
+    (Found (record { question = asks twoAndHalf; left = Leaf (says 0 1); right = Leaf (says 0 1); error = 2 }) 1)
     -- "T9: support 3: KEPT tried=0."
     ∷ search fourRows (terms 3 0 2 mostError) (Kept 2 0)
     -- "T10: T5 with values 1, 2, labels 0, 1, error 1: FOUND error 0 at 1.5, leaves 0 and 1."
     ∷ search twoRows (terms 1 0 1 mostError)
-    (Found (record { error = 0; column = 0; threshold = oneAndHalf; left = Leaf 0 0; right = Leaf 1 0 }) 1)
+    (Found (record { question = asks oneAndHalf; left = Leaf (says 0 0); right = Leaf (says 1 0); error = 0 }) 1)
     ∷ []
 
 abbrev pub TableHolds : Type 0

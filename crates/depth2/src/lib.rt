@@ -1,24 +1,24 @@
 // The search of a whole sheet (depth2.rs): every column's cuts as the first question, the two-side scan below it.
-use interval_steps::Held;
-use interval_steps::Standing;
+use column_turns::interval_steps::Held;
+use column_turns::interval_steps::Standing;
 use sheet::Checked;
 use sheet::Size;
 use sheet::Terms;
 use sheet::WORDS_PER_ROW;
 use tree::Answer;
 ghost use mathlib.Core.Path.{_≡_};
-ghost use lib.ListN.{length};
 ghost use Rattle.sheet.specs.Check.{sheetOf};
-ghost use Rattle.depth2.specs.Search.{searched, searchOf, scratchOf};
-ghost use Rattle.cut_try.specs.Lent.{tableOf, ringOf, Enough, Became};
-ghost use Rattle.depth2.specs.Columns.{startOf, standingOf, answerHeld};
-ghost use Rattle.cut_try.specs.Ready.{Whole};
+ghost use Rattle.depth2.specs.Search.{searched};
+ghost use Rattle.depth2.specs.Promise.{SearchedOf};
+ghost use Rattle.column_turns.specs.Lent.{tableOf, ringOf, Enough, Became};
+ghost use Rattle.depth2.specs.Columns.{noneTried, standingOf, answerHeld};
+ghost use Rattle.column_turns.specs.Ready.{Whole};
 
 // ---- the columns
 
 // The state before the first column.
 fn nothing_tried(error: u32) -> Standing
-    ensures { λ r. ⌜ r ≡ startOf error ⌝ }
+    ensures { λ r. ⌜ r ≡ noneTried error ⌝ }
 {
     Standing {
         error,
@@ -90,8 +90,7 @@ pub fn search(
     counts: &[u16],
     scratch: &mut [u32],
 ) -> Answer
-    ensures answer { λ r. ⌜ r ≡ searchOf (sheetOf size (now (values .entry)) (now (codes .entry)) (now (order .entry)) (now (cuts .entry)) (now (counts .entry))) terms (length (now (scratch .entry))) ⌝ }
-    ensures lent { λ _. ⌜ now (scratch .exit) ≡ scratchOf (sheetOf size (now (values .entry)) (now (codes .entry)) (now (order .entry)) (now (cuts .entry)) (now (counts .entry))) terms (now (scratch .entry)) ⌝ }
+    ensures { λ r. ⌜ SearchedOf size terms (now (values .entry)) (now (codes .entry)) (now (order .entry)) (now (cuts .entry)) (now (counts .entry)) (now (scratch .entry)) r (now (scratch .exit)) ⌝ }
 {
     let checked = sheet_check::check(size, terms, values, codes, order, cuts, counts, scratch);
     match checked {

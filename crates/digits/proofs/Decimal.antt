@@ -8,7 +8,7 @@ use lib.ListN.{length}
 use lib.Dec.{ltb, lt→ltb, ltb→lt, not-T}
 use Rattle.basics.proofs.Choice.{reach}
 use Rattle.basics.proofs.Walk.{walked, walk-unique}
-use Rattle.digits.specs.Digits.{placesOf, decimalOf, mostPlaces}
+use Rattle.digits.specs.Digits.{digitsIn, decimalOf, mostPlaces}
 use Rattle.digits.proofs.Puts.{length-digits}
 
 -- n is divided by ten `count` times, and `rest` is left
@@ -51,8 +51,8 @@ module _ (n count rest : ℕ) (c : Counting n count rest) where
         above = λ j a b. reach j count (omega arith) (λ e. subst (λ (k : ℕ). 10 ^ k ≤ n) (sym e) (holds-more h)) (λ l. c .above j a l);
       }
 
-  pub counted : rest ≤ 0 → placesOf n ≡ count
-  unfolding placesOf
+  pub counted : rest ≤ 0 → digitsIn n ≡ count
+  unfolding digitsIn
   counted z =
       walk-unique (λ k. ltb n (10 ^ k)) 19 1 count
       (record {
@@ -64,10 +64,10 @@ module _ (n count rest : ℕ) (c : Counting n count rest) where
 
 -- ---- the room that they take
 
-pub places-most : (n : ℕ) → placesOf n ≤ mostPlaces
-unfolding placesOf
+pub places-most : (n : ℕ) → digitsIn n ≤ mostPlaces
+unfolding digitsIn
 places-most n = walked (λ k. ltb n (10 ^ k)) 19 1 .high
 
 pub decimal-most : (n : ℕ) → length (decimalOf n) ≤ mostPlaces
 unfolding decimalOf
-decimal-most n = omega (arith, length-digits 10 (placesOf n) n, places-most n)
+decimal-most n = omega (arith, length-digits 10 (digitsIn n) n, places-most n)

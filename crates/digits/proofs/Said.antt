@@ -10,7 +10,7 @@ use lib.Ieee.{toBits}
 use Rattle.basics.specs.Walk.{walk}
 use Rattle.basics.proofs.Choice.{by-ltb, reach}
 use Rattle.basics.proofs.Walk.{walked}
-use Rattle.digits.specs.Digits.{digitOf, digitsOf, placesOf, decimalOf, hexOf, mostPlaces}
+use Rattle.digits.specs.Digits.{digitOf, digitsOf, digitsIn, decimalOf, hexOf, mostPlaces}
 use Rattle.digits.specs.Laws.{digitSaid, numberSaid, DecimalSays, NoLeadingZero, HexSays, NanBits}
 use Rattle.digits.proofs.Puts.{length-digits}
 
@@ -41,8 +41,8 @@ says base p q (suc count) n h =
 
 -- ---- as many digits as n has
 
-pub places-hold : (n : ℕ) → n < 10 ^ mostPlaces → n < 10 ^ placesOf n
-unfolding placesOf
+pub places-hold : (n : ℕ) → n < 10 ^ mostPlaces → n < 10 ^ digitsIn n
+unfolding digitsIn
 places-hold n h =
     let r = walk (λ k. ltb n (10 ^ k)) 19 1 in
     let v = walked (λ k. ltb n (10 ^ k)) 19 1 in
@@ -50,7 +50,7 @@ places-hold n h =
 
 pub decimal-says : DecimalSays
 unfolding decimalOf
-decimal-says n h = says 10 (omega arith) (omega arith) (placesOf n) n (places-hold n h)
+decimal-says n h = says 10 (omega arith) (omega arith) (digitsIn n) n (places-hold n h)
 
 pub hex-says : HexSays
 unfolding hexOf
@@ -75,7 +75,7 @@ first-digit base (suc count) n p l h q e =
     (sym (List·getD-append (digitsOf base (suc count) (n / base)) (digitOf (n % base) ∷ []) 0 0 (omega (arith, length-digits base (suc count) (n / base)))) ∙ e)
 
 pub no-leading-zero : NoLeadingZero
-unfolding decimalOf placesOf
+unfolding decimalOf digitsIn
 no-leading-zero n h l e =
     let r = walk (λ k. ltb n (10 ^ k)) 19 1 in
     let v = walked (λ k. ltb n (10 ^ k)) 19 1 in

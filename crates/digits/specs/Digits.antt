@@ -19,11 +19,11 @@ abbrev pub mostPlaces : ℕ
 mostPlaces = 20
 
 -- the fewest decimal digits that hold n, one at least: the first k from 1 on with n below 10 ^ k, sought up to that many
-unfoldable pub placesOf : ℕ → ℕ
-placesOf n = walk (λ k. ltb n (10 ^ k)) 19 1
+unfoldable pub digitsIn : ℕ → ℕ
+digitsIn n = walk (λ k. ltb n (10 ^ k)) 19 1
 
 unfoldable pub decimalOf : ℕ → List ℕ
-decimalOf n = digitsOf 10 (placesOf n) n
+decimalOf n = digitsOf 10 (digitsIn n) n
 
 -- a double's bits are sixteen hex digits
 abbrev pub hexPlaces : ℕ

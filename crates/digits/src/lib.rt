@@ -3,8 +3,8 @@ ghost use mathlib.Core.Path.{_≡_};
 ghost use Prim.Native.Nat.{_+_, _≤_, _<_};
 ghost use lib.ListN.{length};
 ghost use lib.Ieee.{binary64, toBits};
-ghost use Rattle.digits.specs.Digits.{digitOf, digitsOf, placesOf, decimalOf, hexOf, mostPlaces, hexPlaces};
-ghost use Rattle.digits.specs.Put.{Put};
+ghost use Rattle.digits.specs.Digits.{digitOf, digitsOf, digitsIn, decimalOf, hexOf, mostPlaces, hexPlaces};
+ghost use Rattle.digits.specs.Put.{Put, PutWithin, PutExactly};
 
 // The bases of the two ways that a number is written.
 const DECIMAL: u64 = 10;
@@ -29,7 +29,7 @@ fn digit(d: u64) -> u8
 
 // How many decimal digits n has.
 fn places(n: u64) -> usize
-    ensures { λ r. ⌜ r ≡ placesOf n ⌝ }
+    ensures { λ r. ⌜ r ≡ digitsIn n ⌝ }
 {
     let mut count: usize = 1;
     let mut rest = n / DECIMAL;
@@ -69,16 +69,14 @@ fn put_digits(out: &mut [u8], at: usize, base: u64, count: usize, n: u64) -> usi
 
 pub fn put_decimal(out: &mut [u8], at: usize, n: u64) -> usize
     requires { ⌜ at + mostPlaces ≤ length (now out) ⌝ }
-    ensures text { λ r. ⌜ Put (now (out .entry)) at (decimalOf n) r (now (out .exit)) ⌝ }
-    ensures room { λ r. ⌜ r ≤ at + mostPlaces ⌝ }
+    ensures { λ r. ⌜ PutWithin (now (out .entry)) at (decimalOf n) mostPlaces r (now (out .exit)) ⌝ }
 {
     put_digits(out, at, DECIMAL, places(n), n)
 }
 
 pub fn put_hex(out: &mut [u8], at: usize, bits: u64) -> usize
     requires { ⌜ at + hexPlaces ≤ length (now out) ⌝ }
-    ensures text { λ r. ⌜ Put (now (out .entry)) at (hexOf bits) r (now (out .exit)) ⌝ }
-    ensures room { λ r. ⌜ r ≡ at + hexPlaces ⌝ }
+    ensures { λ r. ⌜ PutExactly (now (out .entry)) at (hexOf bits) hexPlaces r (now (out .exit)) ⌝ }
 {
     put_digits(out, at, HEX, HEX_PLACES, bits)
 }

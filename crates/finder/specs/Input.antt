@@ -4,6 +4,6 @@ use Rattle.finder.specs.declared.Input.{Input}
 use Rattle.finder.specs.declared.Input.the-variants.{Bytes, Failed}
 
 -- how many bytes were read
-abbrev pub countOf : Input → ℕ
-countOf (Bytes count) = count
-countOf Failed = 0
+abbrev pub bytesKept : Input → ℕ
+bytesKept (Bytes count) = count
+bytesKept Failed = 0

@@ -6,7 +6,7 @@ ghost use lib.ListN.{length, take};
 ghost use Rattle.io.specs.Counts.{Counts};
 ghost use Rattle.listing.specs.Listing.{listingOf};
 ghost use Rattle.rule_finder.specs.Run.{runOf};
-ghost use Rattle.finder.specs.Input.{countOf};
+ghost use Rattle.finder.specs.Input.{bytesKept};
 use libc::STDIN_FILENO;
 use libc::STDOUT_FILENO;
 use listing::LONGEST;
@@ -18,7 +18,7 @@ enum Input {
 }
 
 fn read_input(bytes: &mut [u8]) -> Input
-    ensures { λ r. ⌜ countOf r ≤ length (now (bytes .exit)) ⌝ }
+    ensures { λ r. ⌜ bytesKept r ≤ length (now (bytes .exit)) ⌝ }
 {
     let mut count: usize = 0;
     while count < bytes.len() {
@@ -51,7 +51,7 @@ fn print_answer(bytes: &[u8]) -> bool {
 }
 
 fn main() {
-    let mut bytes = sheet_room::empty_room();
+    let mut bytes = sheet_bytes::sheet_room::empty_room();
     let input = read_input(&mut bytes);
     match input {
         Input::Failed => {

@@ -10,7 +10,7 @@ use Rattle.basics.proofs.Choice.{pick-true, pick-false}
 use Rattle.cuts.specs.Lookups.{atLeast, above, firstFrom, soughtFrom, lowerBoundOf, upperBoundOf}
 use Rattle.cuts.proofs.Lookups.{sought-wide}
 use Rattle.interval_pruner.specs.declared.Zeros.{Zeros}
-use Rattle.interval_pruner.specs.Column.{Column, placeOf}
+use Rattle.interval_pruner.specs.Column.{Column, placeIn}
 use Rattle.interval_pruner.specs.Pruner.{past, short, upperFrom, lowerNear, lowerTo}
 use Rattle.interval_pruner.proofs.Picked.{pick-yes, pick-no}
 
@@ -25,7 +25,7 @@ module _ (c : Column) (z : Zeros) (d m : ℕ) where
   large : c .small ≡ false → (c .small && ltb 0 d) ≡ false
   large e = ap (λ (s : Bool). s && ltb 0 d) e
 
-  pub upper-far : c .small ≡ true → 0 < d → (from v r : ℕ) → from ≡ past (z .left) (suc m) → v ≡ placeOf c m + d + 1
+  pub upper-far : c .small ≡ true → 0 < d → (from v r : ℕ) → from ≡ past (z .left) (suc m) → v ≡ placeIn c m + d + 1
       → r ≡ lowerBoundOf (c .places) from from v → r ≡ upperFrom c z d m
   unfolding upperFrom lowerBoundOf
   upper-far e h from v r f p q =
@@ -42,17 +42,17 @@ module _ (c : Column) (z : Zeros) (d m : ℕ) where
   upper-large e = sym (pick-no (c .small && ltb 0 d) _ _ (large e))
 
   module _ (first : ℕ) where
-    pub lower-none : (x r : ℕ) → x ≡ placeOf c m - (d + 1) → x < placeOf c first → r ≡ first - 1 → r ≡ lowerNear c z d m first
+    pub lower-none : (x r : ℕ) → x ≡ placeIn c m - (d + 1) → x < placeIn c first → r ≡ first - 1 → r ≡ lowerNear c z d m first
     unfolding lowerNear
     lower-none x r p h q =
-        q ∙ sym (pick-true (ltb (placeOf c m - (d + 1)) (placeOf c first)) _ _ (lt→ltb (placeOf c m - (d + 1)) (placeOf c first) (omega arith)))
+        q ∙ sym (pick-true (ltb (placeIn c m - (d + 1)) (placeIn c first)) _ _ (lt→ltb (placeIn c m - (d + 1)) (placeIn c first) (omega arith)))
 
-    pub lower-some : (x last r : ℕ) → x ≡ placeOf c m - (d + 1) → placeOf c first ≤ x → last ≡ short (z .right) (m - 1)
+    pub lower-some : (x last r : ℕ) → x ≡ placeIn c m - (d + 1) → placeIn c first ≤ x → last ≡ short (z .right) (m - 1)
         → r ≡ upperBoundOf (c .places) first last x → r ≡ lowerNear c z d m first
     unfolding lowerNear upperBoundOf
     lower-some x last r p h l q =
         q ∙ (λ i. soughtFrom (above (c .places) (p i)) (c .places) first (l i)) ∙
-        sym (pick-false (ltb (placeOf c m - (d + 1)) (placeOf c first)) _ _ (le→nltb (placeOf c m - (d + 1)) (placeOf c first) (omega arith)))
+        sym (pick-false (ltb (placeIn c m - (d + 1)) (placeIn c first)) _ _ (le→nltb (placeIn c m - (d + 1)) (placeIn c first) (omega arith)))
 
     pub lower-far : c .small ≡ true → 0 < d → lowerNear c z d m first ≡ lowerTo c z d m first
     unfolding lowerTo

@@ -11,7 +11,7 @@ use Rattle.interval_pruner.specs.declared.Tried.{Tried}
 use Rattle.interval_pruner.specs.declared.Tried.the-variants.{Nothing, Cut}
 use Rattle.interval_pruner.specs.declared.Zeros.{Zeros}
 use Rattle.interval_pruner.specs.Column.{recorded}
-use Rattle.interval_pruner.specs.Pruner.{Held, highest, lowest, zerosAfter, recordedAfter}
+use Rattle.interval_pruner.specs.Pruner.{Held, highestZero, lowestZero, zerosAfter, recordedAfter}
 
 -- ---- the table
 
@@ -45,8 +45,8 @@ module _ (table : List ℕ) (k left right : ℕ) where
 -- ---- the marks
 
 module _ (P : ℕ → Type 0) (k : ℕ) (h : P k) where
-  highest-held : (t : Tried) → Held P t → Held P (highest k t)
-  unfolding highest
+  highest-held : (t : Tried) → Held P t → Held P (highestZero k t)
+  unfolding highestZero
   highest-held Nothing p = h
   highest-held (Cut z) p =
       order z k (λ l. subst P (sym (max-right z k l)) h) (λ l. subst P (sym (max-left z k l)) p)
@@ -57,8 +57,8 @@ module _ (P : ℕ → Type 0) (k : ℕ) (h : P k) where
       max-left : (a b : ℕ) → b < a → max a b ≡ a
       max-left a b l = omega arith
 
-  lowest-held : (t : Tried) → Held P t → Held P (lowest k t)
-  unfolding lowest
+  lowest-held : (t : Tried) → Held P t → Held P (lowestZero k t)
+  unfolding lowestZero
   lowest-held Nothing p = h
   lowest-held (Cut z) p =
       order z k (λ l. subst P (sym (min-left z k l)) p) (λ l. subst P (sym (min-right z k l)) h)

@@ -15,27 +15,27 @@ use Rattle.interval_pruner.specs.declared.Bound.{Bound}
 use Rattle.interval_pruner.specs.declared.Shrunk.{Shrunk}
 use Rattle.interval_pruner.specs.declared.Shrunk.the-variants.{Dropped, To}
 use Rattle.interval_pruner.specs.declared.Zeros.{Zeros}
-use Rattle.interval_pruner.specs.Column.{Column, placeOf}
+use Rattle.interval_pruner.specs.Column.{Column, placeIn}
 use Rattle.interval_pruner.proofs.Picked.{pick-yes, pick-no}
-use Rattle.interval_pruner.specs.Pruner.{past, short, sumOf, startAfter, within, endAbove, endBefore, shrunkOf}
+use Rattle.interval_pruner.specs.Pruner.{past, short, sumOf, startAfter, intervalWithin, endAbove, endBefore, shrunkOf}
 
 -- ---- an interval that is not empty, and one that is
 
 pub within-some : (i : Bound) (first last : ℕ) → first ≤ last
-    → within i first last ≡ To (record { first = first; last = last; left = i .left; right = i .right })
-unfolding within
+    → intervalWithin i first last ≡ To (record { first = first; last = last; left = i .left; right = i .right })
+unfolding intervalWithin
 within-some i first last h = pick-true _ _ _ (le→leb first last h)
 
-pub within-none : (i : Bound) (first last : ℕ) → last < first → within i first last ≡ Dropped
-unfolding within
+pub within-none : (i : Bound) (first last : ℕ) → last < first → intervalWithin i first last ≡ Dropped
+unfolding intervalWithin
 within-none i first last h = pick-false _ _ _ (lt→nleb first last h)
 
 -- a lookup up to `last` does for one along the list
 pub within-sought : (i : Bound) (ok : ℕ → Bool) (places : List ℕ) (first last : ℕ)
-    → within i (soughtFrom ok places first last) last ≡ within i (firstFrom ok places first) last
+    → intervalWithin i (soughtFrom ok places first last) last ≡ intervalWithin i (firstFrom ok places first) last
 within-sought i ok places first last =
     order (firstFrom ok places first) last
-    (λ h. ap (λ (n : ℕ). within i n last) (sought-same ok places first last h))
+    (λ h. ap (λ (n : ℕ). intervalWithin i n last) (sought-same ok places first last h))
     (λ h.
     within-none i (soughtFrom ok places first last) last (sought-past ok places first last h) ∙
     sym (within-none i (firstFrom ok places first) last h))
@@ -47,7 +47,7 @@ module _ (c : Column) (b : ℕ) where
   start-low Nothing first = omega arith
   start-low (Cut k) first =
       by-leb (λ (n : ℕ). first ≤ n) b (sumOf c k)
-      (λ h. first-low (atLeast (c .places) (placeOf c k + (sumOf c k - b) + 1)) (c .places) first) (λ h. omega arith)
+      (λ h. first-low (atLeast (c .places) (placeIn c k + (sumOf c k - b) + 1)) (c .places) first) (λ h. omega arith)
 
   -- an empty interval is dropped, whatever the right cut says
   pub end-none : (t : Tried) (i : Bound) (first last : ℕ) → last < first → endBefore c b t i first last ≡ Dropped
@@ -56,53 +56,53 @@ module _ (c : Column) (b : ℕ) where
   end-none (Cut k) i first last h =
       by-leb (λ (s : Shrunk). s ≡ Dropped) b (sumOf c k)
       (λ _.
-      by-ltb (λ (s : Shrunk). s ≡ Dropped) (placeOf c k - (sumOf c k - b + 1)) (placeOf c first)
+      by-ltb (λ (s : Shrunk). s ≡ Dropped) (placeIn c k - (sumOf c k - b + 1)) (placeIn c first)
       (λ _. refl) (λ _. within-none i first (min last _) (omega arith)))
       (λ _. within-none i first last h)
 
   -- only what an interval remembers goes into what is left of it
   same-kept : (t : Tried) (i : Bound) (a d first last : ℕ)
       → endBefore c b t (record { first = a; last = d; left = i .left; right = i .right }) first last ≡ endBefore c b t i first last
-  unfolding endBefore endAbove within
+  unfolding endBefore endAbove intervalWithin
   same-kept Nothing i a d first last = refl
   same-kept (Cut k) i a d first last = refl
 
 -- ---- what each end does, by what is remembered beside it
 
 module _ (c : Column) (b : ℕ) (i : Bound) (t : Tried) (first last : ℕ) where
-  pub start-nothing : t ≡ Nothing → within i first last ≡ within i (startAfter c b t first) last
+  pub start-nothing : t ≡ Nothing → intervalWithin i first last ≡ intervalWithin i (startAfter c b t first) last
   unfolding startAfter
-  start-nothing e = sym (ap (λ (u : Tried). within i (startAfter c b u first) last) e)
+  start-nothing e = sym (ap (λ (u : Tried). intervalWithin i (startAfter c b u first) last) e)
 
-  pub end-nothing : t ≡ Nothing → within i first last ≡ endBefore c b t i first last
+  pub end-nothing : t ≡ Nothing → intervalWithin i first last ≡ endBefore c b t i first last
   unfolding endBefore
   end-nothing e = sym (ap (λ (u : Tried). endBefore c b u i first last) e)
 
   module _ (k : ℕ) (e : t ≡ Cut k) where
     -- an error below what is known of the best says nothing of its neighbours
-    pub start-under : sumOf c k < b → within i first last ≡ within i (startAfter c b t first) last
+    pub start-under : sumOf c k < b → intervalWithin i first last ≡ intervalWithin i (startAfter c b t first) last
     unfolding startAfter
     start-under h =
         sym
-        (ap (λ (u : Tried). within i (startAfter c b u first) last) e ∙
-        ap (λ (n : ℕ). within i n last) (pick-false (leb b (sumOf c k)) _ first (lt→nleb b (sumOf c k) h)))
+        (ap (λ (u : Tried). intervalWithin i (startAfter c b u first) last) e ∙
+        ap (λ (n : ℕ). intervalWithin i n last) (pick-false (leb b (sumOf c k)) _ first (lt→nleb b (sumOf c k) h)))
 
-    pub end-under : sumOf c k < b → within i first last ≡ endBefore c b t i first last
+    pub end-under : sumOf c k < b → intervalWithin i first last ≡ endBefore c b t i first last
     unfolding endBefore
     end-under h =
         sym (ap (λ (u : Tried). endBefore c b u i first last) e ∙ pick-false (leb b (sumOf c k)) _ _ (lt→nleb b (sumOf c k) h))
 
-    pub start-over : b ≤ sumOf c k → (v r : ℕ) → v ≡ placeOf c k + (sumOf c k - b) + 1 → r ≡ lowerBoundOf (c .places) first last v
-        → within i r last ≡ within i (startAfter c b t first) last
+    pub start-over : b ≤ sumOf c k → (v r : ℕ) → v ≡ placeIn c k + (sumOf c k - b) + 1 → r ≡ lowerBoundOf (c .places) first last v
+        → intervalWithin i r last ≡ intervalWithin i (startAfter c b t first) last
     unfolding startAfter lowerBoundOf
     start-over h v r p q =
-        ap (λ (n : ℕ). within i n last) (q ∙ ap (λ (u : ℕ). soughtFrom (atLeast (c .places) u) (c .places) first last) p) ∙
-        within-sought i (atLeast (c .places) (placeOf c k + (sumOf c k - b) + 1)) (c .places) first last ∙
+        ap (λ (n : ℕ). intervalWithin i n last) (q ∙ ap (λ (u : ℕ). soughtFrom (atLeast (c .places) u) (c .places) first last) p) ∙
+        within-sought i (atLeast (c .places) (placeIn c k + (sumOf c k - b) + 1)) (c .places) first last ∙
         sym
-        (ap (λ (u : Tried). within i (startAfter c b u first) last) e ∙
-        ap (λ (n : ℕ). within i n last) (pick-true (leb b (sumOf c k)) _ first (le→leb b (sumOf c k) h)))
+        (ap (λ (u : Tried). intervalWithin i (startAfter c b u first) last) e ∙
+        ap (λ (n : ℕ). intervalWithin i n last) (pick-true (leb b (sumOf c k)) _ first (le→leb b (sumOf c k) h)))
 
-    pub end-over : b ≤ sumOf c k → (x : ℕ) → x ≡ placeOf c k - (sumOf c k - b + 1)
+    pub end-over : b ≤ sumOf c k → (x : ℕ) → x ≡ placeIn c k - (sumOf c k - b + 1)
         → endAbove c i x first last ≡ endBefore c b t i first last
     unfolding endBefore
     end-over h x p =
@@ -121,7 +121,7 @@ module _ (c : Column) (b : ℕ) where
   rightStep i = endBefore c b (i .right) i (i .first) (i .last)
 
   abbrev pub leftStep : Bound → Shrunk
-  leftStep i = within i (startAfter c b (i .left) (i .first)) (i .last)
+  leftStep i = intervalWithin i (startAfter c b (i .left) (i .first)) (i .last)
 
   abbrev pub bothSteps : Bound → Shrunk
   bothSteps i = next (leftStep i) rightStep
@@ -130,7 +130,7 @@ module _ (c : Column) (b : ℕ) where
   ends : (i : Bound) (first last : ℕ)
       → endBefore c b (i .right) i (startAfter c b (i .left) first) last ≡
       bothSteps (record { first = first; last = last; left = i .left; right = i .right })
-  unfolding within
+  unfolding intervalWithin
   ends i first last =
       by-leb (λ (s : Shrunk). endBefore c b (i .right) i (startAfter c b (i .left) first) last ≡ next s rightStep)
       (startAfter c b (i .left) first) last
@@ -138,8 +138,8 @@ module _ (c : Column) (b : ℕ) where
       (λ h. end-none c b (i .right) i (startAfter c b (i .left) first) last h)
 
   pub in-steps : (z : Zeros) (i : Bound) → c .small ≡ true
-      → shrunkOf c z b i ≡ next (within i (past (z .left) (i .first)) (short (z .right) (i .last))) bothSteps
-  unfolding shrunkOf within
+      → shrunkOf c z b i ≡ next (intervalWithin i (past (z .left) (i .first)) (short (z .right) (i .last))) bothSteps
+  unfolding shrunkOf intervalWithin
   in-steps z i e =
       let first : ℕ = past (z .left) (i .first) in
       let last : ℕ = short (z .right) (i .last) in
@@ -149,6 +149,6 @@ module _ (c : Column) (b : ℕ) where
       (λ h. end-none c b (i .right) i (startAfter c b (i .left) first) last (omega (arith, start-low c b (i .left) first)))
 
   -- with larger support nothing is shrunk
-  pub not-small : (z : Zeros) (i : Bound) → c .small ≡ false → shrunkOf c z b i ≡ within i (i .first) (i .last)
+  pub not-small : (z : Zeros) (i : Bound) → c .small ≡ false → shrunkOf c z b i ≡ intervalWithin i (i .first) (i .last)
   unfolding shrunkOf
   not-small z i e = pick-no _ _ _ e

@@ -1,6 +1,6 @@
 -- Steps 1, 2 and 5 of document 01's search. `b` is the document's B, the smaller of the current error and the upper bound. Definitions only.
 use Prim.Native.Nat.{ℕ, suc, _+_, _-_, _*_, _<_, min, max}
-use mathlib.Core.Bool.{Bool, _&&_}
+use mathlib.Core.Bool.{Bool, true, false, _&&_}
 use mathlib.Core.List.{List}
 use lib.ListN.{length, set}
 use lib.Dec.{leb, ltb, eqb}
@@ -13,7 +13,7 @@ use Rattle.interval_pruner.specs.declared.Shrunk.{Shrunk}
 use Rattle.interval_pruner.specs.declared.Shrunk.the-variants.{Dropped, To}
 use Rattle.interval_pruner.specs.declared.Zeros.{Zeros}
 use Rattle.interval_pruner.specs.declared.Parts.{Parts}
-use Rattle.interval_pruner.specs.Column.{Column, placeOf, leftOf, rightOf, errorOf}
+use Rattle.interval_pruner.specs.Column.{Column, placeIn, leftError, rightError, errorOf}
 
 -- ---- what was tried
 
@@ -23,18 +23,23 @@ Held P Nothing = Unit {0}
 Held P (Cut k) = P k
 
 -- "the highest tried cut with left error 0", "the lowest with right error 0": after one more cut that is such
-unfoldable pub highest : ℕ → Tried → Tried
-highest k Nothing = Cut k
-highest k (Cut z) = Cut (max z k)
+unfoldable pub highestZero : ℕ → Tried → Tried
+highestZero k Nothing = Cut k
+highestZero k (Cut z) = Cut (max z k)
 
-unfoldable pub lowest : ℕ → Tried → Tried
-lowest k Nothing = Cut k
-lowest k (Cut z) = Cut (min z k)
+unfoldable pub lowestZero : ℕ → Tried → Tried
+lowestZero k Nothing = Cut k
+lowestZero k (Cut z) = Cut (min z k)
+
+-- the one upwards, the other downwards
+abbrev pub farthest : Bool → ℕ → Tried → Tried
+farthest true = highestZero
+farthest false = lowestZero
 
 -- after a try of cut k with these two errors
 unfoldable pub zerosAfter : Zeros → ℕ → ℕ → ℕ → Zeros
 zerosAfter z k left right =
-    record { left = pick (eqb left 0) (highest k (z .left)) (z .left); right = pick (eqb right 0) (lowest k (z .right)) (z .right) }
+    record { left = pick (eqb left 0) (highestZero k (z .left)) (z .left); right = pick (eqb right 0) (lowestZero k (z .right)) (z .right) }
 
 -- the table of errors after it
 unfoldable pub recordedAfter : List ℕ → ℕ → ℕ → ℕ → List ℕ
@@ -45,11 +50,11 @@ recordedAfter table k left right = set (set table (2 * k) left) (2 * k + 1) righ
 -- "left error at its remembered left cut, or 0", and the right one
 unfoldable pub heldLeft : Column → Tried → ℕ
 heldLeft c Nothing = 0
-heldLeft c (Cut k) = leftOf c k
+heldLeft c (Cut k) = leftError c k
 
 unfoldable pub heldRight : Column → Tried → ℕ
 heldRight c Nothing = 0
-heldRight c (Cut k) = rightOf c k
+heldRight c (Cut k) = rightError c k
 
 -- "With support ≤ 1, drop it if (..) + (..) + gap ≥ B."
 unfoldable pub hopeless : Column → ℕ → Bound → Bool
@@ -75,28 +80,28 @@ sumOf c k = errorOf c k + c .gap
 unfoldable pub startAfter : Column → ℕ → Tried → ℕ → ℕ
 startAfter c b Nothing first = first
 startAfter c b (Cut k) first =
-    pick (leb b (sumOf c k)) (firstFrom (atLeast (c .places) (placeOf c k + (sumOf c k - b) + 1)) (c .places) first) first
+    pick (leb b (sumOf c k)) (firstFrom (atLeast (c .places) (placeIn c k + (sumOf c k - b) + 1)) (c .places) first) first
 
 -- the interval from `first` to `last` with the cuts that i remembers; "An empty interval is dropped."
-unfoldable pub within : Bound → ℕ → ℕ → Shrunk
-within i first last = pick (leb first last) (To (record { first = first; last = last; left = i .left; right = i .right })) Dropped
+unfoldable pub intervalWithin : Bound → ℕ → ℕ → Shrunk
+intervalWithin i first last = pick (leb first last) (To (record { first = first; last = last; left = i .left; right = i .right })) Dropped
 
 -- "drop the interval if x is below its first cut's place, else end at the first cut placed above x, if that lies inside"
 unfoldable pub endAbove : Column → Bound → ℕ → ℕ → ℕ → Shrunk
 endAbove c i x first last =
-    pick (ltb x (placeOf c first)) Dropped (within i first (min last (firstFrom (above (c .places) x) (c .places) first)))
+    pick (ltb x (placeIn c first)) Dropped (intervalWithin i first (min last (firstFrom (above (c .places) x) (c .places) first)))
 
 -- "from the right one, let x be its place − (s − B + 1), not below 0"
 unfoldable pub endBefore : Column → ℕ → Tried → Bound → ℕ → ℕ → Shrunk
-endBefore c b Nothing i first last = within i first last
+endBefore c b Nothing i first last = intervalWithin i first last
 endBefore c b (Cut k) i first last =
-    pick (leb b (sumOf c k)) (endAbove c i (placeOf c k - (sumOf c k - b + 1)) first last) (within i first last)
+    pick (leb b (sumOf c k)) (endAbove c i (placeIn c k - (sumOf c k - b + 1)) first last) (intervalWithin i first last)
 
 -- "With support ≤ 1, shrink as `interval_shrinking`"; "No end moves outwards."
 unfoldable pub shrunkOf : Column → Zeros → ℕ → Bound → Shrunk
 shrunkOf c z b i =
     let first : ℕ = startAfter c b (i .left) (past (z .left) (i .first)) in
-    pick (c .small) (endBefore c b (i .right) i first (short (z .right) (i .last))) (within i (i .first) (i .last))
+    pick (c .small) (endBefore c b (i .right) i first (short (z .right) (i .last))) (intervalWithin i (i .first) (i .last))
 
 -- ---- step 5: the two parts round the tried cut m of an interval that begins at `first`
 
@@ -104,15 +109,15 @@ shrunkOf c z b i =
 -- tried one and past the highest with left error 0 whose place is at least the tried place + d + 1"; "With support above 1 .. number+1 up"
 unfoldable pub upperFrom : Column → Zeros → ℕ → ℕ → ℕ
 upperFrom c z d m =
-    pick (c .small && ltb 0 d) (firstFrom (atLeast (c .places) (placeOf c m + d + 1)) (c .places) (past (z .left) (suc m))) (suc m)
+    pick (c .small && ltb 0 d) (firstFrom (atLeast (c .places) (placeIn c m + d + 1)) (c .places) (past (z .left) (suc m))) (suc m)
 
 -- "For the lower, let x be the tried place − (d + 1), not below 0. If x is below the interval's first place, it ends at first number − 1, not
 -- below 0. Else it ends at the first cut placed above x, sought from the interval's first cut to the smaller of number−1 and (lowest with
 -- right error 0)−1, each not below 0, or one past that end if none"
 unfoldable pub lowerNear : Column → Zeros → ℕ → ℕ → ℕ → ℕ
 lowerNear c z d m first =
-    let x : ℕ = placeOf c m - (d + 1) in
-    pick (ltb x (placeOf c first)) (first - 1) (soughtFrom (above (c .places) x) (c .places) first (short (z .right) (m - 1)))
+    let x : ℕ = placeIn c m - (d + 1) in
+    pick (ltb x (placeIn c first)) (first - 1) (soughtFrom (above (c .places) x) (c .places) first (short (z .right) (m - 1)))
 
 -- "and the lower keeps the tried cut" at d = 0; "With support above 1 .. number−1 down, which stays 0 at 0"
 unfoldable pub lowerTo : Column → Zeros → ℕ → ℕ → ℕ → ℕ
@@ -125,7 +130,7 @@ partsOf c z excess m first =
 
 -- What the search has when it asks for the parts: the list ascends, and the tried cut and the one that the left zero mark names are in it. (A number
 -- past every list has no next one that a machine holds.)
-pub record Listed (places : List ℕ) (z : Zeros) (m : ℕ) : Type 0 where
+pub record PartsListed (places : List ℕ) (z : Zeros) (m : ℕ) : Type 0 where
   pub ascending : Ascending places
   pub cut : m < length places
   pub zero : Held (λ k. k < length places) (z .left)

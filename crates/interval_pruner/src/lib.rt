@@ -1,13 +1,17 @@
 // The record of what was tried in one column (interval_pruner.rs), and the definitions of steps 1, 2 and 5 of its search, each step a crate above.
+pub mod interval_shrinking;
+pub mod neighbourhood_pruning;
+pub mod subinterval_pruning;
 
 ghost use mathlib.Core.Path.{_≡_};
-ghost use Prim.Native.Nat.{_+_, _*_, _^_, _<_};
+ghost use Prim.Native.Nat.{_+_, _*_, _^_, _<_, min, max};
 ghost use lib.ListN.{getD, set};
 ghost use lib.Dec.{eqb};
 ghost use Rattle.basics.specs.Choice.{pick};
 ghost use Rattle.interval_pruner.specs.Column.{recorded};
-ghost use Rattle.interval_pruner.specs.Pruner.{highest, lowest, zerosAfter, recordedAfter, short};
-use numbers::wide_word;
+ghost use Rattle.interval_pruner.specs.Pruner.{farthest, recordedAfter, short};
+ghost use Rattle.interval_pruner.specs.Promise.{ResultAdded};
+use basics::wide_word;
 
 // A tried cut, by its number, if there is one.
 pub enum Tried {
@@ -64,25 +68,24 @@ fn store_both(table: &mut [u32], cut: usize, left: u32, right: u32)
     }
 }
 
-fn highest_zero(mark: Tried, cut: usize, error: u32) -> Tried
-    ensures { λ r. ⌜ r ≡ pick (eqb error 0) (highest cut mark) mark ⌝ }
+fn farther(upwards: bool, a: usize, b: usize) -> usize
+    ensures { λ r. ⌜ r ≡ pick upwards (max a b) (min a b) ⌝ }
 {
-    if error == 0 {
-        return match mark {
-            Tried::Nothing => Tried::Cut(cut),
-            Tried::Cut(z) => Tried::Cut(numbers::larger(z, cut)),
-        };
+    if upwards {
+        basics::larger(a, b)
+    } else {
+        basics::smaller(a, b)
     }
-    mark
 }
 
-fn lowest_zero(mark: Tried, cut: usize, error: u32) -> Tried
-    ensures { λ r. ⌜ r ≡ pick (eqb error 0) (lowest cut mark) mark ⌝ }
+// The mark of the highest tried cut with error 0, or of the lowest, after one more.
+fn farthest_zero(upwards: bool, mark: Tried, cut: usize, error: u32) -> Tried
+    ensures { λ r. ⌜ r ≡ pick (eqb error 0) (farthest upwards cut mark) mark ⌝ }
 {
     if error == 0 {
         return match mark {
             Tried::Nothing => Tried::Cut(cut),
-            Tried::Cut(z) => Tried::Cut(numbers::smaller(z, cut)),
+            Tried::Cut(z) => Tried::Cut(farther(upwards, z, cut)),
         };
     }
     mark
@@ -90,15 +93,14 @@ fn lowest_zero(mark: Tried, cut: usize, error: u32) -> Tried
 
 // The errors of a tried cut are kept, and the zero marks moved.
 pub fn add_result(table: &mut [u32], zeros: Zeros, cut: usize, left: u32, right: u32) -> Zeros
-    ensures { λ r. ⌜ r ≡ zerosAfter zeros cut left right ⌝ }
-    ensures table { λ _. ⌜ now (table .exit) ≡ recordedAfter (now (table .entry)) cut left right ⌝ }
+    ensures { λ r. ⌜ ResultAdded (now (table .entry)) zeros cut left right r (now (table .exit)) ⌝ }
 {
     store_both(table, cut, left, right);
     let low = zeros.left;
     let high = zeros.right;
     Zeros {
-        left: highest_zero(low, cut, left),
-        right: lowest_zero(high, cut, right),
+        left: farthest_zero(true, low, cut, left),
+        right: farthest_zero(false, high, cut, right),
     }
 }
 
@@ -116,7 +118,7 @@ fn at(table: &[u32], i: usize) -> usize
 }
 
 // A cut past the table is not asked for, as in `store_both`.
-pub fn left_at(table: &[u32], cut: usize) -> usize
+pub(crate) fn left_at(table: &[u32], cut: usize) -> usize
     ensures { λ r. ⌜ r ≡ recorded (now (table .entry)) cut .0 ⌝ }
     ensures fits { λ r. ⌜ r < 2 ^ 32 ⌝ }
 {
@@ -127,7 +129,7 @@ pub fn left_at(table: &[u32], cut: usize) -> usize
     }
 }
 
-pub fn right_at(table: &[u32], cut: usize) -> usize
+pub(crate) fn right_at(table: &[u32], cut: usize) -> usize
     ensures { λ r. ⌜ r ≡ recorded (now (table .entry)) cut .1 ⌝ }
     ensures fits { λ r. ⌜ r < 2 ^ 32 ⌝ }
 {
@@ -138,17 +140,17 @@ pub fn right_at(table: &[u32], cut: usize) -> usize
     }
 }
 
-pub fn short_of(zero: Tried, last: usize) -> usize
+pub(crate) fn short_of(zero: Tried, last: usize) -> usize
     ensures { λ r. ⌜ r ≡ short zero last ⌝ }
 {
     match zero {
         Tried::Nothing => last,
-        Tried::Cut(z) => numbers::smaller(last, numbers::below(z, 1)),
+        Tried::Cut(z) => basics::smaller(last, basics::minus(z, 1)),
     }
 }
 
 // A tried cut's error plus the gap.
-pub fn sum_at(table: &[u32], cut: usize, gap: u32) -> usize
+pub(crate) fn sum_at(table: &[u32], cut: usize, gap: u32) -> usize
     ensures { λ r. ⌜ r ≡ recorded (now (table .entry)) cut .0 + recorded (now (table .entry)) cut .1 + gap ⌝ }
     ensures fits { λ r. ⌜ r < 3 * 2 ^ 32 ⌝ }
 {

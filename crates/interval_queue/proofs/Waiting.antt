@@ -15,8 +15,8 @@ use Rattle.interval_pruner.specs.declared.Tried.{Tried}
 use Rattle.interval_pruner.specs.declared.Tried.the-variants.{Nothing, Cut}
 use Rattle.interval_pruner.specs.declared.Bound.{Bound}
 use Rattle.interval_queue.specs.declared.Queue.{Queue}
-use Rattle.interval_queue.specs.Ring.{largestWord, wordOf, markOf, cutOf, stored, loaded, slotsOf, slotOf, contents}
-use Rattle.interval_queue.specs.Laws.{Sane, Small, SmallCut, PushAppends, PopTakesFirst}
+use Rattle.interval_queue.specs.Ring.{largestWord, wordOf, wordOfTried, triedIn, stored, loaded, slotsOf, slotOf, contents}
+use Rattle.interval_queue.specs.Laws.{Sane, SmallBound, SmallCut, PushAppends, PopTakesFirst}
 use Rattle.interval_queue.proofs.Cases.{slot-inside, slot-round, push-room, push-room-words, pop-some}
 
 -- ---- words
@@ -25,17 +25,17 @@ small-word : (n : ℕ) → n ≤ largestWord → wordOf n ≡ n
 unfolding wordOf
 small-word n h = omega arith
 
-cut-suc : (k w : ℕ) → w ≡ k + 1 → cutOf w ≡ Cut k
-unfolding cutOf
+cut-suc : (k w : ℕ) → w ≡ k + 1 → triedIn w ≡ Cut k
+unfolding triedIn
 cut-suc k zero e = absurd (omega arith)
 cut-suc k (suc w) e = ap Cut (back w e)
   where
     back : (w : ℕ) → suc w ≡ k + 1 → w ≡ k
     back w e = omega arith
 
-cut-mark : (t : Tried) → SmallCut t → cutOf (markOf t) ≡ t
-cut-mark Nothing h = unfold cutOf markOf in refl
-cut-mark (Cut k) h = unfold markOf in cut-suc k (wordOf (k + 1)) (small-word (k + 1) (above k h))
+cut-mark : (t : Tried) → SmallCut t → triedIn (wordOfTried t) ≡ t
+cut-mark Nothing h = unfold triedIn wordOfTried in refl
+cut-mark (Cut k) h = unfold wordOfTried in cut-suc k (wordOf (k + 1)) (small-word (k + 1) (above k h))
   where
     above : (k : ℕ) → k < largestWord → k + 1 ≤ largestWord
     above k h = omega arith
@@ -59,14 +59,14 @@ abbrev two : List ℕ → ℕ → Bound → List ℕ
 two words at i = set (one words at i) (at + 1) (wordOf (i .last))
 
 abbrev three : List ℕ → ℕ → Bound → List ℕ
-three words at i = set (two words at i) (at + 2) (markOf (i .left))
+three words at i = set (two words at i) (at + 2) (wordOfTried (i .left))
 
 module _ (words : List ℕ) (at : ℕ) (i : Bound) where
   elsewhere : (j : ℕ) → (j < at) ⊎ (at + 4 ≤ j) → getD (stored words at i) j 0 ≡ getD words j 0
   unfolding stored
   elsewhere j h =
-      getD-set-other (three words at i) (at + 3) j (markOf (i .right)) 0 (λ e. ⊎-elim (λ l. omega arith) (λ l. omega arith) h)
-      ∙ getD-set-other (two words at i) (at + 2) j (markOf (i .left)) 0 (λ e. ⊎-elim (λ l. omega arith) (λ l. omega arith) h)
+      getD-set-other (three words at i) (at + 3) j (wordOfTried (i .right)) 0 (λ e. ⊎-elim (λ l. omega arith) (λ l. omega arith) h)
+      ∙ getD-set-other (two words at i) (at + 2) j (wordOfTried (i .left)) 0 (λ e. ⊎-elim (λ l. omega arith) (λ l. omega arith) h)
       ∙ getD-set-other (one words at i) (at + 1) j (wordOf (i .last)) 0 (λ e. ⊎-elim (λ l. omega arith) (λ l. omega arith) h)
       ∙ getD-set-other words at j (wordOf (i .first)) 0 (λ e. ⊎-elim (λ l. omega arith) (λ l. omega arith) h)
 
@@ -85,37 +85,37 @@ module _ (words : List ℕ) (at : ℕ) (i : Bound) where
     there-first : getD (stored words at i) at 0 ≡ wordOf (i .first)
     unfolding stored
     there-first =
-        getD-set-other (three words at i) (at + 3) at (markOf (i .right)) 0 (λ e. omega arith)
-        ∙ getD-set-other (two words at i) (at + 2) at (markOf (i .left)) 0 (λ e. omega arith)
+        getD-set-other (three words at i) (at + 3) at (wordOfTried (i .right)) 0 (λ e. omega arith)
+        ∙ getD-set-other (two words at i) (at + 2) at (wordOfTried (i .left)) 0 (λ e. omega arith)
         ∙ getD-set-other (one words at i) (at + 1) at (wordOf (i .last)) 0 (λ e. omega arith)
         ∙ getD-set-same words at (wordOf (i .first)) 0 (omega arith)
 
     there-last : getD (stored words at i) (at + 1) 0 ≡ wordOf (i .last)
     unfolding stored
     there-last =
-        getD-set-other (three words at i) (at + 3) (at + 1) (markOf (i .right)) 0 (λ e. omega arith)
-        ∙ getD-set-other (two words at i) (at + 2) (at + 1) (markOf (i .left)) 0 (λ e. omega arith)
+        getD-set-other (three words at i) (at + 3) (at + 1) (wordOfTried (i .right)) 0 (λ e. omega arith)
+        ∙ getD-set-other (two words at i) (at + 2) (at + 1) (wordOfTried (i .left)) 0 (λ e. omega arith)
         ∙ getD-set-same (one words at i) (at + 1) (wordOf (i .last)) 0 (simp length-set (omega arith))
 
-    there-left : getD (stored words at i) (at + 2) 0 ≡ markOf (i .left)
+    there-left : getD (stored words at i) (at + 2) 0 ≡ wordOfTried (i .left)
     unfolding stored
     there-left =
-        getD-set-other (three words at i) (at + 3) (at + 2) (markOf (i .right)) 0 (λ e. omega arith)
-        ∙ getD-set-same (two words at i) (at + 2) (markOf (i .left)) 0 (simp length-set (omega arith))
+        getD-set-other (three words at i) (at + 3) (at + 2) (wordOfTried (i .right)) 0 (λ e. omega arith)
+        ∙ getD-set-same (two words at i) (at + 2) (wordOfTried (i .left)) 0 (simp length-set (omega arith))
 
-    there-right : getD (stored words at i) (at + 3) 0 ≡ markOf (i .right)
+    there-right : getD (stored words at i) (at + 3) 0 ≡ wordOfTried (i .right)
     unfolding stored
     there-right =
-        getD-set-same (three words at i) (at + 3) (markOf (i .right)) 0
+        getD-set-same (three words at i) (at + 3) (wordOfTried (i .right)) 0
         (simp length-set (omega arith))
 
-    loaded-there : Small i → loaded (stored words at i) at ≡ i
+    loaded-there : SmallBound i → loaded (stored words at i) at ≡ i
     unfolding loaded
     loaded-there s =
         let a = there-first ∙ small-word (i .first) (s .first) in
         let b = there-last ∙ small-word (i .last) (s .last) in
-        let l = ap cutOf there-left ∙ cut-mark (i .left) (s .left) in
-        let r = ap cutOf there-right ∙ cut-mark (i .right) (s .right) in
+        let l = ap triedIn there-left ∙ cut-mark (i .left) (s .left) in
+        let r = ap triedIn there-right ∙ cut-mark (i .right) (s .right) in
         fields (loaded (stored words at i) at) (record { first = i .first; last = i .last; left = i .left; right = i .right }) a b l r
 
 -- ---- slots
@@ -162,7 +162,7 @@ four n = omega arith
 
 -- ---- push
 
-module _ (words : List ℕ) (q : Queue) (i : Bound) (s : Sane words q) (room : q .waiting < slotsOf words) (small : Small i) where
+module _ (words : List ℕ) (q : Queue) (i : Bound) (s : Sane words q) (room : q .waiting < slotsOf words) (small : SmallBound i) where
   fits : slotOf (q .head) (q .waiting) (slotsOf words) * 4 + 4 ≤ length words
   fits = omega (arith, four (length words), slot-in (q .head) (q .waiting) (slotsOf words) (s .head-in) (s .few))
 

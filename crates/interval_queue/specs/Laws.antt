@@ -17,7 +17,7 @@ abbrev pub SmallCut : Tried → Type 0
 SmallCut Nothing = Unit {0}
 SmallCut (Cut k) = k < largestWord
 
-pub record Small (i : Bound) : Type 0 where
+pub record SmallBound (i : Bound) : Type 0 where
   pub first : i .first ≤ largestWord
   pub last : i .last ≤ largestWord
   pub left : SmallCut (i .left)
@@ -26,7 +26,7 @@ pub record Small (i : Bound) : Type 0 where
 -- an interval pushed is the last to wait
 abbrev pub PushAppends : Type 0
 PushAppends =
-    (words : List ℕ) (q : Queue) (i : Bound) → Sane words q → q .waiting < slotsOf words → Small i
+    (words : List ℕ) (q : Queue) (i : Bound) → Sane words q → q .waiting < slotsOf words → SmallBound i
     → (contents (pushedWords words q i) (pushed words q) ≡ contents words q ++ (i ∷ [])) × Sane (pushedWords words q i) (pushed words q)
 
 -- what is popped is the first that waits, and the others go on waiting

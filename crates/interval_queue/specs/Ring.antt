@@ -1,4 +1,5 @@
 -- "One interval .. is queued, first in first out": the queue as a ring in lent words, four words an interval. Definitions only.
+use mathlib.Core.Path.{_≡_}
 use Prim.Native.Nat.{ℕ, zero, suc, _+_, _-_, _*_, _/_, min}
 use mathlib.Core.Bool.{Bool, _||_}
 use mathlib.Core.List.{List}
@@ -21,27 +22,27 @@ unfoldable pub wordOf : ℕ → ℕ
 wordOf n = min n largestWord
 
 -- a remembered cut: 0 for none, else one more than its number
-unfoldable pub markOf : Tried → ℕ
-markOf Nothing = 0
-markOf (Cut k) = wordOf (k + 1)
+unfoldable pub wordOfTried : Tried → ℕ
+wordOfTried Nothing = 0
+wordOfTried (Cut k) = wordOf (k + 1)
 
-unfoldable pub cutOf : ℕ → Tried
-cutOf zero = Nothing
-cutOf (suc k) = Cut k
+unfoldable pub triedIn : ℕ → Tried
+triedIn zero = Nothing
+triedIn (suc k) = Cut k
 
 -- ---- an interval in four words
 
 unfoldable pub stored : List ℕ → ℕ → Bound → List ℕ
 stored words at i =
-    set (set (set (set words at (wordOf (i .first))) (at + 1) (wordOf (i .last))) (at + 2) (markOf (i .left))) (at + 3) (markOf (i .right))
+    set (set (set (set words at (wordOf (i .first))) (at + 1) (wordOf (i .last))) (at + 2) (wordOfTried (i .left))) (at + 3) (wordOfTried (i .right))
 
 unfoldable pub loaded : List ℕ → ℕ → Bound
 loaded words at =
     record {
       first = getD words at 0;
       last = getD words (at + 1) 0;
-      left = cutOf (getD words (at + 2) 0);
-      right = cutOf (getD words (at + 3) 0);
+      left = triedIn (getD words (at + 2) 0);
+      right = triedIn (getD words (at + 3) 0);
     }
 
 -- ---- the ring
@@ -82,3 +83,7 @@ popped words q =
       bound = loaded words (q .head * 4);
       queue = record { head = slotOf (q .head) 1 (slotsOf words); waiting = q .waiting - 1 };
     })
+
+-- what pushing an interval leaves: the queue, and the lent words
+abbrev pub PushedTo : List ℕ → Queue → Bound → Queue → List ℕ → Type 0
+PushedTo words q i q′ words′ = (q′ ≡ pushed words q) × (words′ ≡ pushedWords words q i)

@@ -1,11 +1,11 @@
 // The intervals that wait, first in first out: a ring in lent words, four words an interval (the original's `VecDeque`).
+use basics::wide_word;
 use interval_pruner::Bound;
 use interval_pruner::Tried;
-use numbers::wide_word;
 ghost use mathlib.Core.Path.{_≡_};
 ghost use Prim.Native.Nat.{_+_, _/_, _<_, _≤_};
 ghost use lib.ListN.{length};
-ghost use Rattle.interval_queue.specs.Ring.{slotOf, wordOf, markOf, cutOf, stored, loaded, pushedWords, pushed, popped, emptyBound};
+ghost use Rattle.interval_queue.specs.Ring.{slotOf, wordOf, wordOfTried, triedIn, stored, loaded, popped, emptyBound, PushedTo};
 
 // Where the first interval stands, and how many wait.
 pub struct Queue {
@@ -46,13 +46,13 @@ fn word(n: usize) -> u32
     if n < LARGEST_WORD {
         n as u32
     } else {
-        0xffff_ffff
+        LARGEST_WORD as u32
     }
 }
 
 // A remembered cut as a word: 0 for none, else one more than its number.
 fn mark(tried: Tried) -> u32
-    ensures { λ r. ⌜ r ≡ markOf tried ⌝ }
+    ensures { λ r. ⌜ r ≡ wordOfTried tried ⌝ }
 {
     match tried {
         Tried::Nothing => 0,
@@ -60,14 +60,14 @@ fn mark(tried: Tried) -> u32
             if k < LARGEST_WORD {
                 word(k + 1)
             } else {
-                0xffff_ffff
+                LARGEST_WORD as u32
             }
         }
     }
 }
 
 fn cut(word: u32) -> Tried
-    ensures { λ r. ⌜ r ≡ cutOf word ⌝ }
+    ensures { λ r. ⌜ r ≡ triedIn word ⌝ }
 {
     if word == 0 {
         Tried::Nothing
@@ -104,8 +104,7 @@ fn load(words: &[u32], at: usize) -> Bound
 
 // One interval more at the end; a full ring stays as it is.
 pub fn push(words: &mut [u32], queue: Queue, bound: Bound) -> Queue
-    ensures { λ r. ⌜ r ≡ pushed (now (words .entry)) queue ⌝ }
-    ensures { λ _. ⌜ now (words .exit) ≡ pushedWords (now (words .entry)) queue bound ⌝ }
+    ensures { λ r. ⌜ PushedTo (now (words .entry)) queue bound r (now (words .exit)) ⌝ }
 {
     let slots = words.len() / WORDS;
     let head = queue.head;

@@ -3,20 +3,20 @@
 -- nothing.
 use mathlib.Core.Path.{_≡_, refl, sym, ap, _∙_, subst}
 use mathlib.Core.Logic.{inl, inr, ⊎-elim}
-use Prim.Native.Nat.{ℕ, suc, _+_, _≤_, _<_}
+use Prim.Native.Nat.{ℕ, zero, suc, _+_, _≤_, _<_}
 use native.Mathlib.Omega.{arith}
 use mathlib.Core.Bool.{Bool, true, false, not}
 use mathlib.Core.List.{List, [], _∷_}
 use lib.ListN.{length, List·getD-eq-default}
 use lib.Dec.{T, T-not, not-T, leb, eqb, leb→le, le→leb, eqb-refl}
+use lib.Ieee.{Float}
 use lib.Ieee.Scale.{finite}
 use Rattle.basics.specs.Choice.{bit}
 use Rattle.basics.specs.Lists.{tally}
 use Rattle.basics.specs.Walk.{walk}
 use Rattle.basics.proofs.Choice.{by-test, by-ltb, either, order, reach, and-both, or-left, or-right}
 use Rattle.basics.proofs.Lists.{length-table, tally-parts}
-use Rattle.threshold.specs.Threshold.{goesLeft}
-use Rattle.sheet.specs.Sheet.{Sheet, valueOf, everyRow}
+use Rattle.sheet.specs.Sheet.{Sheet, everyRow}
 use Rattle.sheet.specs.Check.{cellsOf, sizeHolds, badValue, badLabel}
 use Rattle.sheet.proofs.Search.{clean-walk, walk-bad}
 use Rattle.sheet.proofs.Numbered.{None, next, none0}
@@ -27,19 +27,20 @@ use Rattle.tree.specs.declared.Side.the-variants.{Leaf, Split}
 use Rattle.tree.specs.declared.Tree.{Tree}
 use Rattle.judge.specs.declared.Verdict.{Verdict}
 use Rattle.judge.specs.declared.Verdict.the-variants.{TurnedBack, Judged}
-use Rattle.judge_rows.specs.Mistakes.{rowsAt, rootLeftward, rootRightward, all, judgementOf}
-use Rattle.judge_rows.specs.Passing.{badColumn}
-use Rattle.judge.specs.Judge.{judgedHolds, badLeaf, badThreshold, back, backFirst, treeChecked, judgeOf}
-use Rattle.judge.specs.Laws.{Lengths, AsksHigh, LeafAbove, AsksEndless, among, conditionsOf, Condition, First, GivenExactly, JudgedExactly, EveryRowCounted}
-use Rattle.judge.proofs.Reasons.{values-length, codes-length, rest1, rest2, rest3, rest4, rest5, rest6, rest7, rest8, after1, after2, after5}
+use Rattle.judge.specs.Mistakes.{sentLeft, rowsAt, rootLeftward, rootRightward, all, judgementOf}
+use Rattle.judge.specs.Passing.{badColumn}
+use Rattle.judge.specs.Judge.{judgedHolds, badLeaf, badThreshold, badAt, badColumns, badLeaves, badThresholds, back, backFirst, treeChecked, judgeOf}
+use Rattle.judge.specs.Reasons.{places}
+use Rattle.judge.specs.Laws.{JudgeLengths, AsksHigh, LeafAbove, AsksEndless, among, judgeConditions, JudgeCondition, JudgeFirst, JudgeGivenExactly, JudgedExactly, EveryRowCounted}
+use Rattle.judge.proofs.Reasons.{values-length, codes-length, after1, after2, after5, after10, after11}
 
 -- ---- tests and conditions
 
-lengths-to : (s : Sheet) → (Lengths s → ⊥) → T (not (judgedHolds s))
+lengths-to : (s : Sheet) → (JudgeLengths s → ⊥) → T (not (judgedHolds s))
 lengths-to s f =
     not-T (judgedHolds s) (λ t. f (record { values-all = values-length s t; codes-all = codes-length s t }))
 
-lengths-from : (s : Sheet) → T (not (judgedHolds s)) → Lengths s → ⊥
+lengths-from : (s : Sheet) → T (not (judgedHolds s)) → JudgeLengths s → ⊥
 unfolding judgedHolds
 lengths-from s t l =
     T-not (judgedHolds s) t
@@ -49,56 +50,69 @@ lengths-from s t l =
     alike : (m n : ℕ) → m ≡ n → T (eqb m n)
     alike m n e = subst (λ x. T (eqb m x)) e (eqb-refl m)
 
-column-to : (columns : ℕ) (x : Side) → AsksHigh columns x → T (badColumn columns x)
+-- a test says whether a condition holds
+record Says (A : Type 0) (a : Bool) : Type 0 where
+  to : A → T a
+  from : T a → A
+
+never : Says ⊥ false
+never = record { to = λ x. absurd x; from = λ x. absurd x }
+
+high-says : (m n : ℕ) → Says (m ≤ n) (leb m n)
+high-says m n = record { to = le→leb m n; from = leb→le m n }
+
+endless-says : (x : Float) → Says (T (finite x) → ⊥) (not (finite x))
+endless-says x = record { to = not-T (finite x); from = T-not (finite x) }
+
+column-says : (columns : ℕ) (x : Side) → Says (AsksHigh columns x) (badColumn columns x)
 unfolding badColumn
-column-to columns (Leaf label error) h = absurd h
-column-to columns (Split column threshold left right lost missed) h = le→leb columns column h
+column-says columns (Leaf leaf) = never
+column-says columns (Split question left right) = high-says columns (question .column)
 
-column-from : (columns : ℕ) (x : Side) → T (badColumn columns x) → AsksHigh columns x
-unfolding badColumn
-column-from columns (Leaf label error) h = absurd h
-column-from columns (Split column threshold left right lost missed) h = leb→le columns column h
-
-leaf-to : (labels : ℕ) (x : Side) → LeafAbove labels x → T (badLeaf labels x)
+leaf-says : (labels : ℕ) (x : Side) → Says (LeafAbove labels x) (badLeaf labels x)
 unfolding badLeaf
-leaf-to labels (Leaf label error) h = le→leb labels label h
-leaf-to labels (Split column threshold left right lost missed) h =
-    ⊎-elim (λ a. or-left (leb labels left) (leb labels right) (le→leb labels left a))
-    (λ a. or-right (leb labels left) (leb labels right) (le→leb labels right a)) h
+leaf-says labels (Leaf leaf) = high-says labels (leaf .label)
+leaf-says labels (Split question left right) =
+    let l = high-says labels (left .label) in
+    let r = high-says labels (right .label) in
+    record {
+      to = λ h. ⊎-elim (λ x. or-left (leb labels (left .label)) (leb labels (right .label)) (l .to x)) (λ x. or-right (leb labels (left .label)) (leb labels (right .label)) (r .to x)) h;
+      from = λ h. either (leb labels (left .label)) (leb labels (right .label)) h (λ t. inl (l .from t)) (λ t. inr (r .from t));
+    }
 
-leaf-from : (labels : ℕ) (x : Side) → T (badLeaf labels x) → LeafAbove labels x
-unfolding badLeaf
-leaf-from labels (Leaf label error) h = leb→le labels label h
-leaf-from labels (Split column threshold left right lost missed) h =
-    either (leb labels left) (leb labels right) h (λ t. inl (leb→le labels left t)) (λ t. inr (leb→le labels right t))
-
-endless-to : (x : Side) → AsksEndless x → T (badThreshold x)
+threshold-says : (x : Side) → Says (AsksEndless x) (badThreshold x)
 unfolding badThreshold
-endless-to (Leaf label error) h = absurd h
-endless-to (Split column threshold left right lost missed) h = not-T (finite threshold) h
+threshold-says (Leaf leaf) = never
+threshold-says (Split question left right) = endless-says (question .threshold)
 
-endless-from : (x : Side) → T (badThreshold x) → AsksEndless x
-unfolding badThreshold
-endless-from (Leaf label error) h = absurd h
-endless-from (Split column threshold left right lost missed) h = T-not (finite threshold) h
+-- conditions of the three places, and their tests
+module _ {A B D : Type 0} {a b d : Bool} (f : Says A a) (g : Says B b) (h : Says D d) where
+  three-to : (q : ℕ) → among (A ∷ B ∷ D ∷ []) q → (q < places) × T (badAt a b d q)
+  unfolding badAt
+  three-to zero x = (omega arith, f .to x)
+  three-to (suc zero) x = (omega arith, g .to x)
+  three-to (suc (suc zero)) x = (omega arith, h .to x)
+  three-to (suc (suc (suc q))) x = absurd x
 
--- a condition of three places holds at one of them
-three : (a b d : Type 0) (q : ℕ) → among (a ∷ b ∷ d ∷ []) q → q < 3
-three a b d q x =
-    order 3 q (λ h. absurd (subst (λ X. X) (List·getD-eq-default (a ∷ b ∷ d ∷ []) ⊥ {n = q} (omega arith)) x)) (λ h. h)
+  three-from : (q : ℕ) → q < places → T (badAt a b d q) → among (A ∷ B ∷ D ∷ []) q
+  unfolding badAt
+  three-from zero l x = f .from x
+  three-from (suc zero) l x = g .from x
+  three-from (suc (suc zero)) l x = h .from x
+  three-from (suc (suc (suc q))) l x = absurd x
 
 -- ---- the answer fits the conditions
 
 module _ (s : Sheet) (t : Tree) where
   abbrev C : ℕ → ℕ → Type 0
-  C n p = Condition s t n p
+  C n p = JudgeCondition s t n p
 
   abbrev Earlier : ℕ → ℕ → Type 0
   Earlier n p = (q : ℕ) → q < p → C n q → ⊥
 
   abbrev Fitting : Verdict → Type 0
   Fitting (Judged j) = (j ≡ judgementOf s t) × ((n p : ℕ) → C n p → ⊥)
-  Fitting (TurnedBack n p) = First s t n p
+  Fitting (TurnedBack n p) = JudgeFirst s t n p
 
   at-start : (n : ℕ) → Earlier n 0
   at-start n q h x = absurd (omega arith)
@@ -136,7 +150,7 @@ module _ (s : Sheet) (t : Tree) where
       (λ g. go (next C k none (λ q x. let w = to q x in T-not (bad q) (clean-walk bad places .none q (omega (arith, w .0))) (w .1))))
 
   beyond : (m q : ℕ) → 12 < m → C m q → ⊥
-  beyond m q h x = subst (λ X. X) (List·getD-eq-default (conditionsOf s t q) ⊥ {n = m} (omega arith)) x
+  beyond m q h x = subst (λ X. X) (List·getD-eq-default (judgeConditions s t q) ⊥ {n = m} (omega arith)) x
 
   twice : (b : Bool) → T (not (not b)) → T b
   twice true u = tt
@@ -145,41 +159,32 @@ module _ (s : Sheet) (t : Tree) where
   only : (q : ℕ) → q ≡ 0 → q < 1
   only q e = omega arith
 
+  -- a test at the three places
+  by-places : (k : ℕ) {A B D : Type 0} {a b d : Bool} (rest : Verdict) → ((q : ℕ) → C (suc k) q ≡ among (A ∷ B ∷ D ∷ []) q) → None C k
+      → (None C (suc k) → Fitting rest) → Says A a → Says B b → Says D d → Fitting (backFirst (suc k) places (badAt a b d) rest)
+  by-places k {A} {B} {D} {a} {b} {d} rest e none go f g h =
+      by-scan k places (badAt a b d) rest (λ q x. three-to f g h q (subst (λ X. X) (e q) x))
+      (λ q l u. subst (λ X. X) (sym (e q)) (three-from f g h q l u)) none go
+
   -- reasons 10, 11 and 12
   tree-fits : None C 9 → Fitting (treeChecked s t)
   unfolding treeChecked
   tree-fits n9 =
-      by-back 9 0 (leb (s .columns) (t .column)) (rest1 s t) (le→leb (s .columns) (t .column)) (leb→le (s .columns) (t .column)) n9 (at-start 10)
-      (λ _ a0.
-      by-back 9 1 (badColumn (s .columns) (t .left)) (rest2 s t) (column-to (s .columns) (t .left)) (column-from (s .columns) (t .left)) n9 a0
-      (λ _ a1.
-      by-back 9 2 (badColumn (s .columns) (t .right)) (rest3 s t) (column-to (s .columns) (t .right)) (column-from (s .columns) (t .right)) n9 a1
-      (λ _ a2.
-      let n10 : None C 10 = past 9 3 (three (s .columns ≤ t .column) (AsksHigh (s .columns) (t .left)) (AsksHigh (s .columns) (t .right))) n9 a2 in
-      by-back 10 1 (badLeaf (s .labels) (t .left)) (rest4 s t) (leaf-to (s .labels) (t .left)) (leaf-from (s .labels) (t .left)) n10
-      (λ q h x. subst (λ n. C 11 n) (zero-only q h) x)
-      (λ _ b1.
-      by-back 10 2 (badLeaf (s .labels) (t .right)) (rest5 s t) (leaf-to (s .labels) (t .right)) (leaf-from (s .labels) (t .right)) n10 b1
-      (λ _ b2.
-      let n11 : None C 11 = past 10 3 (three ⊥ (LeafAbove (s .labels) (t .left)) (LeafAbove (s .labels) (t .right))) n10 b2 in
-      by-back 11 0 (not (finite (t .threshold))) (rest6 s t) (not-T (finite (t .threshold))) (T-not (finite (t .threshold))) n11 (at-start 12)
-      (λ _ c0.
-      by-back 11 1 (badThreshold (t .left)) (rest7 s t) (endless-to (t .left)) (endless-from (t .left)) n11 c0
-      (λ _ c1.
-      by-back 11 2 (badThreshold (t .right)) (rest8 s t) (endless-to (t .right)) (endless-from (t .right)) n11 c1
-      (λ _ c2.
-      let n12 : None C 12 = past 11 3 (three (T (finite (t .threshold)) → ⊥) (AsksEndless (t .left)) (AsksEndless (t .right))) n11 c2 in
-      (refl, λ m q x. order m 12 (λ l. n12 m q l x) (λ g. beyond m q g x))))))))))
-    where
-      zero-only : (q : ℕ) → q < 1 → q ≡ 0
-      zero-only q h = omega arith
+      by-places 9 (after10 s t) (λ q. refl) n9
+      (λ n10.
+      by-places 10 (after11 s t) (λ q. refl) n10
+      (λ n11.
+      by-places 11 (Judged (judgementOf s t)) (λ q. refl) n11 (λ n12. (refl, λ m q x. order m 12 (λ l. n12 m q l x) (λ g. beyond m q g x)))
+      (endless-says (t .question .threshold)) (threshold-says (t .left)) (threshold-says (t .right)))
+      never (leaf-says (s .labels) (t .left)) (leaf-says (s .labels) (t .right)))
+      (high-says (s .columns) (t .question .column)) (column-says (s .columns) (t .left)) (column-says (s .columns) (t .right))
 
   fitting : Fitting (judgeOf s t)
   unfolding judgeOf
   fitting =
-      by-back 0 0 (not (sizeHolds s)) (after1 s t) (λ x. size-to s (x .1)) (λ u. (refl, size-from s u)) (none0 C (λ q x. x)) (at-start 1)
+      by-back 0 0 (not (sizeHolds (s .rows) (s .columns) (s .labels))) (after1 s t) (λ x. size-to s (x .1)) (λ u. (refl, size-from s u)) (none0 C (λ q x. x)) (at-start 1)
       (λ a e1.
-      let some : 1 ≤ s .rows = limited s (twice (sizeHolds s) a) .rows-some in
+      let some : 1 ≤ s .rows = limited s (twice (sizeHolds (s .rows) (s .columns) (s .labels)) a) .rows-some in
       let n1 : None C 1 = past 0 1 (λ q x. only q (x .0)) (none0 C (λ q x. x)) e1 in
       by-back 1 0 (not (judgedHolds s)) (after2 s t) (λ x. lengths-to s (x .1)) (λ u. (refl, lengths-from s u)) n1 (at-start 2)
       (λ _ e2.
@@ -192,11 +197,11 @@ module _ (s : Sheet) (t : Tree) where
 
   -- ---- two answers that fit are the same
 
-  same-refusal : (n p m q : ℕ) → First s t n p → First s t m q → (n ≡ m) × (p ≡ q)
+  same-refusal : (n p m q : ℕ) → JudgeFirst s t n p → JudgeFirst s t m q → (n ≡ m) × (p ≡ q)
   same-refusal n p m q x y =
       let e : n ≡ m =
       order n m (λ l. reach n m l (λ e. e) (λ g. absurd (y .no-lower n p g (x .here)))) (λ g. absurd (x .no-lower m q g (y .here))) in
-      let z : First s t n q = subst (λ k. First s t k q) (sym e) y in (
+      let z : JudgeFirst s t n q = subst (λ k. JudgeFirst s t k q) (sym e) y in (
         e,
         order p q (λ l. reach p q l (λ e. e) (λ g. absurd (z .no-earlier p g (x .here)))) (λ g. absurd (x .no-earlier q g (z .here))),
       )
@@ -211,7 +216,7 @@ module _ (s : Sheet) (t : Tree) where
 
 -- ---- the laws
 
-pub given-exactly : GivenExactly
+pub given-exactly : JudgeGivenExactly
 given-exactly s t n p = (
   λ e. subst (λ r. Fitting s t r) e (fitting s t),
   λ x. same-answer s t (judgeOf s t) (TurnedBack n p) (fitting s t) x,
@@ -233,7 +238,7 @@ pub every-row-counted : EveryRowCounted
 unfolding rowsAt
 every-row-counted s t =
     sym
-    (tally-parts (rootLeftward s t) (rootRightward s t) all (λ r. one (goesLeft (valueOf s (t .column) r) (t .threshold))) (everyRow s))
+    (tally-parts (rootLeftward s t) (rootRightward s t) all (λ r. one (sentLeft s (t .question) r)) (everyRow s))
     ∙ tally-all (everyRow s) ∙ length-table (λ r. r) (s .rows)
   where
     one : (b : Bool) → bit true ≡ bit b + bit (not b)

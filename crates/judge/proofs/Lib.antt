@@ -2,3 +2,5 @@
 pub mod Finite
 pub mod Reasons
 pub mod Exact
+pub mod Taking
+mod Passing

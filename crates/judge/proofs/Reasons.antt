@@ -4,25 +4,25 @@ use Prim.Native.Nat.{ℕ, _≤_, _<_}
 use native.Mathlib.Omega.{arith}
 use mathlib.Core.Bool.{Bool, true, false, not, _||_}
 use lib.ListN.{length}
-use lib.Dec.{T, leb, ltb, eqb, lt→ltb, eqb→eq}
-use lib.Ieee.{Float}
-use lib.Ieee.Scale.{finite}
+use lib.Dec.{T, leb, ltb, eqb, lt→ltb, eqb→eq, nleb→lt}
 use borrow.Author.Tests.{lt-leb, le-leb, le-ltb}
 use Rattle.basics.specs.Walk.{walk}
 use Rattle.basics.proofs.Choice.{pick-true, pick-false, and-left, and-right}
 use Rattle.sheet.specs.Sheet.{Sheet}
 use Rattle.sheet.specs.Check.{cellsOf, sizeHolds, badValue, badLabel}
 use Rattle.sheet.specs.Reasons.{sizeOutside, lengthWrong, valueOutside, labelHigh}
+use Rattle.tree.specs.declared.Question.{Question}
+use Rattle.tree.specs.declared.Leaf as leaf
 use Rattle.tree.specs.declared.Side.{Side}
 use Rattle.tree.specs.declared.Side.the-variants.{Split}
 use Rattle.tree.specs.declared.Tree.{Tree}
-use Rattle.sheet.proofs.Search.{truth, untruth}
+use Rattle.sheet.proofs.Search.{truth, untruth, clean-walk}
 use Rattle.judge.specs.declared.Verdict.{Verdict}
 use Rattle.judge.specs.declared.Verdict.the-variants.{TurnedBack, Judged}
-use Rattle.judge.specs.Reasons.{columnHigh, leafHigh, thresholdEndless, atRoot, atLeft, atRight}
-use Rattle.judge_rows.specs.Mistakes.{judgementOf}
-use Rattle.judge_rows.specs.Passing.{badColumn}
-use Rattle.judge.specs.Judge.{back, backFirst, judgedHolds, badLeaf, badThreshold, treeChecked, judgeOf}
+use Rattle.judge.specs.Reasons.{columnHigh, leafHigh, thresholdEndless, places}
+use Rattle.judge.specs.Mistakes.{judgementOf}
+use Rattle.judge.specs.Passing.{Asking}
+use Rattle.judge.specs.Judge.{back, backFirst, judgedHolds, badLeaf, badAt, badColumns, badLeaves, badThresholds, treeChecked, judgeOf}
 
 made : (b : Bool) → T b → b ≡ true
 made true t = refl
@@ -61,45 +61,39 @@ codes-length s t =
 
 -- ---- reason 11 at a side that is a question
 
-module _ (labels : ℕ) {side : Side} {column : ℕ} {threshold : Float} {left right lost missed : ℕ} (e : side ≡ Split column threshold left right lost missed) where
-  pub left-high : labels ≤ left → true ≡ badLeaf labels side
+module _ (labels : ℕ) {side : Side} {question : Question} {left right : leaf.Leaf} (e : side ≡ Split question left right) where
+  pub left-high : labels ≤ left .label → true ≡ badLeaf labels side
   unfolding badLeaf
-  left-high h = sym (ap (badLeaf labels) e ∙ ap (λ b. b || leb labels right) (le-leb labels left h))
+  left-high h = sym (ap (badLeaf labels) e ∙ ap (λ b. b || leb labels (right .label)) (le-leb labels (left .label) h))
 
-  pub left-fair : left < labels → leb labels right ≡ badLeaf labels side
+  pub left-fair : left .label < labels → leb labels (right .label) ≡ badLeaf labels side
   unfolding badLeaf
-  left-fair h = sym (ap (badLeaf labels) e ∙ ap (λ b. b || leb labels right) (lt-leb labels left h))
+  left-fair h = sym (ap (badLeaf labels) e ∙ ap (λ b. b || leb labels (right .label)) (lt-leb labels (left .label) h))
+
+-- ---- the tests at the three places
+
+pub placed : {p : ℕ} {a a' b b' d d' : Bool} → p ≡ walk (badAt a b d) places 0 → a ≡ a' → b ≡ b' → d ≡ d' → p ≡ walk (badAt a' b' d') places 0
+placed h e f g = cc
 
 -- ---- reasons 10, 11 and 12, each where those before it were ruled out
 
 module _ (s : Sheet) (t : Tree) where
-  abbrev pub rest8 : Verdict
-  rest8 = Judged (judgementOf s t)
+  abbrev pub after11 : Verdict
+  after11 = backFirst thresholdEndless places (badThresholds t) (Judged (judgementOf s t))
 
-  abbrev pub rest7 : Verdict
-  rest7 = back thresholdEndless atRight (badThreshold (t .right)) rest8
+  abbrev pub after10 : Verdict
+  after10 = backFirst leafHigh places (badLeaves s t) after11
 
-  abbrev pub rest6 : Verdict
-  rest6 = back thresholdEndless atLeft (badThreshold (t .left)) rest7
-
-  abbrev pub rest5 : Verdict
-  rest5 = back thresholdEndless atRoot (not (finite (t .threshold))) rest6
-
-  abbrev pub rest4 : Verdict
-  rest4 = back leafHigh atRight (badLeaf (s .labels) (t .right)) rest5
-
-  abbrev pub rest3 : Verdict
-  rest3 = back leafHigh atLeft (badLeaf (s .labels) (t .left)) rest4
-
-  abbrev pub rest2 : Verdict
-  rest2 = back columnHigh atRight (badColumn (s .columns) (t .right)) rest3
-
-  abbrev pub rest1 : Verdict
-  rest1 = back columnHigh atLeft (badColumn (s .columns) (t .left)) rest2
-
-  pub tree-checked : treeChecked s t ≡ back columnHigh atRoot (leb (s .columns) (t .column)) rest1
+  pub tree-checked : treeChecked s t ≡ backFirst columnHigh places (badColumns s t) after10
   unfolding treeChecked
   tree-checked = refl
+
+  -- a tree that asks columns of the sheet at each place
+  pub asking : places ≤ walk (badColumns s t) places 0 → Asking (s .columns) t
+  unfolding badAt
+  asking h =
+      let fair = clean-walk (badColumns s t) places .none in
+      record { root = nleb→lt (s .columns) (t .question .column) (fair 0 (omega arith)); left = fair 1 (omega arith); right = fair 2 (omega arith) }
 
   -- ---- the sheet's reasons
 
@@ -112,6 +106,6 @@ module _ (s : Sheet) (t : Tree) where
   abbrev pub after1 : Verdict
   after1 = back lengthWrong 0 (not (judgedHolds s)) after2
 
-  pub judged : judgeOf s t ≡ back sizeOutside 0 (not (sizeHolds s)) after1
+  pub judged : judgeOf s t ≡ back sizeOutside 0 (not (sizeHolds (s .rows) (s .columns) (s .labels))) after1
   unfolding judgeOf
   judged = refl

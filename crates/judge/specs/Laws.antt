@@ -11,35 +11,35 @@ use Rattle.sheet.specs.Laws.{SizeOutside, ValueOutside, LabelHigh}
 use Rattle.tree.specs.declared.Side.{Side}
 use Rattle.tree.specs.declared.Side.the-variants.{Leaf, Split}
 use Rattle.tree.specs.declared.Tree.{Tree}
-use Rattle.judge_rows.specs.declared.Judgement.{Judgement}
+use Rattle.judge.specs.declared.judge_rows.Judgement.{Judgement}
 use Rattle.judge.specs.declared.Verdict.the-variants.{TurnedBack, Judged}
-use Rattle.judge_rows.specs.Mistakes.{rowsAt, rootLeftward, rootRightward, judgementOf}
+use Rattle.judge.specs.Mistakes.{rowsAt, rootLeftward, rootRightward, judgementOf}
 use Rattle.judge.specs.Judge.{judgeOf}
 
 -- ---- the conditions, each of a place; 1, 5 and 6 are the input check's
 
 -- 2: "an input slice of the wrong length", place 0: of the judge's two
-pub record Lengths (s : Sheet) : Type 0 where
+pub record JudgeLengths (s : Sheet) : Type 0 where
   pub values-all : length (s .values) ≡ s .columns * s .rows
   pub codes-all : length (s .codes) ≡ s .rows
 
-abbrev pub LengthWrong : Sheet → ℕ → Type 0
-LengthWrong s p = (p ≡ 0) × (Lengths s → ⊥)
+abbrev pub JudgeLengthWrong : Sheet → ℕ → Type 0
+JudgeLengthWrong s p = (p ≡ 0) × (JudgeLengths s → ⊥)
 
 -- a side asks a column that the sheet does not have
 abbrev pub AsksHigh : ℕ → Side → Type 0
-AsksHigh columns (Leaf label error) = ⊥
-AsksHigh columns (Split column threshold left right lost missed) = columns ≤ column
+AsksHigh columns (Leaf leaf) = ⊥
+AsksHigh columns (Split question left right) = columns ≤ question .column
 
 -- a leaf of a side has a label that the sheet does not have
 abbrev pub LeafAbove : ℕ → Side → Type 0
-LeafAbove labels (Leaf label error) = labels ≤ label
-LeafAbove labels (Split column threshold left right lost missed) = (labels ≤ left) ⊎ (labels ≤ right)
+LeafAbove labels (Leaf leaf) = labels ≤ leaf .label
+LeafAbove labels (Split question left right) = (labels ≤ left .label) ⊎ (labels ≤ right .label)
 
 -- a side asks at a threshold that is an infinity or a NaN
 abbrev pub AsksEndless : Side → Type 0
-AsksEndless (Leaf label error) = ⊥
-AsksEndless (Split column threshold left right lost missed) = T (finite threshold) → ⊥
+AsksEndless (Leaf leaf) = ⊥
+AsksEndless (Split question left right) = T (finite (question .threshold)) → ⊥
 
 -- the condition at a place, of those at places 0, 1 and 2; at no other place does one hold
 abbrev pub among : List (Type 0) → ℕ → Type 0
@@ -47,7 +47,7 @@ among conditions p = getD conditions p ⊥
 
 -- 10: "judge: tree column too high", "question: 0 root, 1 left, 2 right"
 abbrev pub ColumnHigh : Sheet → Tree → ℕ → Type 0
-ColumnHigh s t = among ((s .columns ≤ t .column) ∷ AsksHigh (s .columns) (t .left) ∷ AsksHigh (s .columns) (t .right) ∷ [])
+ColumnHigh s t = among ((s .columns ≤ t .question .column) ∷ AsksHigh (s .columns) (t .left) ∷ AsksHigh (s .columns) (t .right) ∷ [])
 
 -- 11: "judge: leaf label too high", "side: 1 left, 2 right"
 abbrev pub LeafHigh : Sheet → Tree → ℕ → Type 0
@@ -55,14 +55,14 @@ LeafHigh s t = among (⊥ ∷ LeafAbove (s .labels) (t .left) ∷ LeafAbove (s .
 
 -- 12: "judge: threshold not finite", "question, as in 10"
 abbrev pub ThresholdEndless : Tree → ℕ → Type 0
-ThresholdEndless t = among ((T (finite (t .threshold)) → ⊥) ∷ AsksEndless (t .left) ∷ AsksEndless (t .right) ∷ [])
+ThresholdEndless t = among ((T (finite (t .question .threshold)) → ⊥) ∷ AsksEndless (t .left) ∷ AsksEndless (t .right) ∷ [])
 
 -- "the judge 1, 2, 5, 6, 10, 11, 12": the conditions at a place, by number from 0 on; the others are no reasons of the judge
-abbrev pub conditionsOf : Sheet → Tree → ℕ → List (Type 0)
-conditionsOf s t p =
+abbrev pub judgeConditions : Sheet → Tree → ℕ → List (Type 0)
+judgeConditions s t p =
     ⊥
     ∷ SizeOutside s p
-    ∷ LengthWrong s p
+    ∷ JudgeLengthWrong s p
     ∷ ⊥
     ∷ ⊥
     ∷ ValueOutside s p
@@ -75,29 +75,29 @@ conditionsOf s t p =
     ∷ ThresholdEndless t p
     ∷ []
 
-abbrev pub Condition : Sheet → Tree → ℕ → ℕ → Type 0
-Condition s t n p = getD (conditionsOf s t p) n ⊥
+abbrev pub JudgeCondition : Sheet → Tree → ℕ → ℕ → Type 0
+JudgeCondition s t n p = getD (judgeConditions s t p) n ⊥
 
 -- ---- "The lowest number wins, each check over the whole sheet."
 
 -- reason n holds at place p, at no earlier place, and no lower reason holds anywhere
-pub record First (s : Sheet) (t : Tree) (n p : ℕ) : Type 0 where
-  pub here : Condition s t n p
-  pub no-earlier : (q : ℕ) → q < p → Condition s t n q → ⊥
-  pub no-lower : (m q : ℕ) → m < n → Condition s t m q → ⊥
+pub record JudgeFirst (s : Sheet) (t : Tree) (n p : ℕ) : Type 0 where
+  pub here : JudgeCondition s t n p
+  pub no-earlier : (q : ℕ) → q < p → JudgeCondition s t n q → ⊥
+  pub no-lower : (m q : ℕ) → m < n → JudgeCondition s t m q → ⊥
 
 -- "Each is given exactly when its condition holds and no lower one does."
-abbrev pub GivenExactly : Type 0
-GivenExactly =
+abbrev pub JudgeGivenExactly : Type 0
+JudgeGivenExactly =
     (s : Sheet) (t : Tree) (n p : ℕ)
-    → (judgeOf s t ≡ TurnedBack n p → First s t n p) × (First s t n p → judgeOf s t ≡ TurnedBack n p)
+    → (judgeOf s t ≡ TurnedBack n p → JudgeFirst s t n p) × (JudgeFirst s t n p → judgeOf s t ≡ TurnedBack n p)
 
 -- and a sheet and a tree of which none holds are judged, and no others
 abbrev pub JudgedExactly : Type 0
 JudgedExactly =
     (s : Sheet) (t : Tree) (j : Judgement)
-    → (judgeOf s t ≡ Judged j → (j ≡ judgementOf s t) × ((n p : ℕ) → Condition s t n p → ⊥))
-    × (((n p : ℕ) → Condition s t n p → ⊥) → judgeOf s t ≡ Judged (judgementOf s t))
+    → (judgeOf s t ≡ Judged j → (j ≡ judgementOf s t) × ((n p : ℕ) → JudgeCondition s t n p → ⊥))
+    × (((n p : ℕ) → JudgeCondition s t n p → ⊥) → judgeOf s t ≡ Judged (judgementOf s t))
 
 -- ---- every row goes to one of the two root sides, whatever the tree
 

@@ -22,3 +22,7 @@ atLeft = 1
 
 abbrev pub atRight : ℕ
 atRight = 2
+
+-- how many places there are
+abbrev pub places : ℕ
+places = 3

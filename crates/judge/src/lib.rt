@@ -1,14 +1,18 @@
 // The judge: the reasons against a sheet and a tree, and then the tree run over the rows.
+pub mod judge_rows;
+
 ghost use mathlib.Core.Path.{_≡_};
 ghost use Prim.Native.Nat.{_≤_};
 ghost use mathlib.Core.List.{[]};
 ghost use lib.Ieee.Scale.{finite};
+ghost use Rattle.basics.specs.Walk.{walk};
 ghost use Rattle.sheet.specs.Check.{sheetOf};
 ghost use Rattle.sheet.specs.Limits.{mostRows, mostColumns};
-ghost use Rattle.judge_rows.specs.Passing.{badColumn, Shaped};
+ghost use Rattle.judge.specs.Passing.{badColumn, JudgeShaped};
 ghost use Rattle.judge.specs.declared.Verdict.the-variants.{TurnedBack};
-ghost use Rattle.judge.specs.Judge.{judgedHolds, badLeaf, badThreshold, treeChecked, judgeOf};
-use judge_rows::Judgement;
+ghost use Rattle.judge.specs.Reasons.{places};
+ghost use Rattle.judge.specs.Judge.{judgedHolds, badLeaf, badThreshold, badAt, treeChecked, judgeOf};
+use crate::judge_rows::Judgement;
 use sheet::Size;
 use tree::Side;
 use tree::Tree;
@@ -18,18 +22,20 @@ pub enum Verdict {
     Judged(Judgement),
 }
 
-pub const COLUMN_HIGH: u32 = 10;
+const COLUMN_HIGH: u32 = 10;
 
-pub const LEAF_HIGH: u32 = 11;
+const LEAF_HIGH: u32 = 11;
 
-pub const THRESHOLD_ENDLESS: u32 = 12;
+const THRESHOLD_ENDLESS: u32 = 12;
 
-// A question's place, and a side's.
-pub const AT_ROOT: usize = 0;
+// A question's place, and a side's; and how many places there are.
+const AT_ROOT: usize = 0;
 
-pub const AT_LEFT: usize = 1;
+const AT_LEFT: usize = 1;
 
-pub const AT_RIGHT: usize = 2;
+const AT_RIGHT: usize = 2;
+
+const PLACES: usize = 3;
 
 fn turned_back(number: u32, place: usize) -> Verdict
     ensures { λ r. ⌜ r ≡ TurnedBack number place ⌝ }
@@ -52,8 +58,8 @@ fn bad_column(columns: usize, side: Side) -> bool
     ensures { λ r. ⌜ r ≡ badColumn columns side ⌝ }
 {
     match side {
-        Side::Leaf { .. } => false,
-        Side::Split { column, .. } => columns <= column,
+        Side::Leaf(..) => false,
+        Side::Split { question, .. } => columns <= question.column,
     }
 }
 
@@ -61,12 +67,12 @@ fn bad_leaf(labels: usize, side: Side) -> bool
     ensures { λ r. ⌜ r ≡ badLeaf labels side ⌝ }
 {
     match side {
-        Side::Leaf { label, .. } => labels <= label,
+        Side::Leaf(leaf) => labels <= leaf.label,
         Side::Split { left, right, .. } => {
-            if labels <= left {
+            if labels <= left.label {
                 true
             } else {
-                labels <= right
+                labels <= right.label
             }
         }
     }
@@ -76,43 +82,55 @@ fn bad_threshold(side: Side) -> bool
     ensures { λ r. ⌜ r ≡ badThreshold side ⌝ }
 {
     match side {
-        Side::Leaf { .. } => false,
-        Side::Split { threshold, .. } => !is_finite(threshold),
+        Side::Leaf(..) => false,
+        Side::Split { question, .. } => !is_finite(question.threshold),
     }
+}
+
+// The first place at which a test fails the tree; PLACES if it does at none.
+fn first_place(root: bool, left: bool, right: bool) -> usize
+    ensures { λ r. ⌜ r ≡ walk (badAt root left right) places 0 ⌝ }
+{
+    if root {
+        return AT_ROOT;
+    }
+    if left {
+        return AT_LEFT;
+    }
+    if right { AT_RIGHT } else { PLACES }
 }
 
 // Reasons 10, 11 and 12, and then the judgement.
 fn judge_tree(size: Size, values: &[f64], codes: &[u8], tree: Tree) -> Verdict
-    requires { ⌜ Shaped size (now values) (now codes) ⌝ }
+    requires { ⌜ JudgeShaped size (now values) (now codes) ⌝ }
     ensures { λ r. ⌜ r ≡ treeChecked (sheetOf size (now (values .entry)) (now (codes .entry)) [] [] []) tree ⌝ }
 {
     let left = tree.left;
     let right = tree.right;
-    if size.columns <= tree.column {
-        return turned_back(COLUMN_HIGH, AT_ROOT);
+    let question = tree.question;
+    let high = size.columns <= question.column;
+    let column = first_place(
+        high,
+        bad_column(size.columns, left),
+        bad_column(size.columns, right),
+    );
+    if column < PLACES {
+        return turned_back(COLUMN_HIGH, column);
     }
-    if bad_column(size.columns, left) {
-        return turned_back(COLUMN_HIGH, AT_LEFT);
+    let label = first_place(
+        false,
+        bad_leaf(size.labels, left),
+        bad_leaf(size.labels, right),
+    );
+    if label < PLACES {
+        return turned_back(LEAF_HIGH, label);
     }
-    if bad_column(size.columns, right) {
-        return turned_back(COLUMN_HIGH, AT_RIGHT);
+    let endless = !is_finite(question.threshold);
+    let threshold = first_place(endless, bad_threshold(left), bad_threshold(right));
+    if threshold < PLACES {
+        return turned_back(THRESHOLD_ENDLESS, threshold);
     }
-    if bad_leaf(size.labels, left) {
-        return turned_back(LEAF_HIGH, AT_LEFT);
-    }
-    if bad_leaf(size.labels, right) {
-        return turned_back(LEAF_HIGH, AT_RIGHT);
-    }
-    if !is_finite(tree.threshold) {
-        return turned_back(THRESHOLD_ENDLESS, AT_ROOT);
-    }
-    if bad_threshold(left) {
-        return turned_back(THRESHOLD_ENDLESS, AT_LEFT);
-    }
-    if bad_threshold(right) {
-        return turned_back(THRESHOLD_ENDLESS, AT_RIGHT);
-    }
-    Verdict::Judged(judge_rows::judge_rows(size, values, codes, tree))
+    Verdict::Judged(crate::judge_rows::judge_rows(size, values, codes, tree))
 }
 
 // Whether the values have an entry for each cell and the labels one for each row.

@@ -1,8 +1,10 @@
 // Runs the judge and prints each verdict: document 01's trees on the four-row sheet, and each refusal at each of its places.
 use judge::Verdict;
-use judge_rows::Wrong;
+use judge::judge_rows::Wrong;
 use libc::STDOUT_FILENO;
 use sheet::Size;
+use tree::Leaf;
+use tree::Question;
 use tree::Side;
 use tree::Tree;
 
@@ -12,11 +14,11 @@ fn print_number(n: u32) {
 
 fn print_wrong(wrong: Wrong) {
     match wrong {
-        Wrong::AtLeaf(n) => print_number(n),
-        Wrong::AtSplit(n, m) => {
-            print_number(n);
+        Wrong::AtLeaf(reached) => print_number(reached.wrong),
+        Wrong::AtSplit(left, right) => {
+            print_number(left.wrong);
             io::write_all(STDOUT_FILENO, b"/");
-            print_number(m);
+            print_number(right.wrong);
         }
     }
 }
@@ -45,31 +47,38 @@ fn print_verdict(verdict: Verdict) {
     io::write_all(STDOUT_FILENO, b"\n");
 }
 
-fn leaf(label: usize) -> Side {
-    Side::Leaf {
+fn labelled(label: usize) -> Leaf {
+    Leaf {
         label: label,
         error: 0,
     }
 }
 
-fn split(column: usize, threshold: f64, left: usize, right: usize) -> Side {
-    Side::Split {
+fn question(column: usize, threshold: f64) -> Question {
+    Question {
         column: column,
         threshold: threshold,
-        left: left,
-        right: right,
-        lost: 0,
-        missed: 0,
+    }
+}
+
+fn leaf(label: usize) -> Side {
+    Side::Leaf(labelled(label))
+}
+
+fn split(column: usize, threshold: f64, left: usize, right: usize) -> Side {
+    Side::Split {
+        question: question(column, threshold),
+        left: labelled(left),
+        right: labelled(right),
     }
 }
 
 fn rule(column: usize, threshold: f64, left: Side, right: Side) -> Tree {
     Tree {
-        error: 0,
-        column: column,
-        threshold: threshold,
+        question: question(column, threshold),
         left: left,
         right: right,
+        error: 0,
     }
 }
 

@@ -6,9 +6,9 @@ use mathlib.Core.List.{List}
 use Rattle.basics.specs.Choice.{pick}
 use Rattle.sheet.specs.Sheet.{Sheet, valueOf, labelOf, rowAt, orderOf}
 use Rattle.sheet.specs.Sound.{Sound}
-use Rattle.two_sides.specs.declared.Two.{Two}
-use Rattle.side_scan.specs.OneSide.{cleared, sideOf}
-use Rattle.two_sides.specs.Column.{sizeOf, labelled, ownOf, startOf, stepBoth, ended, scanRows, scanColumn}
+use Rattle.leaves_score.specs.declared.two_sides.Two.{Two}
+use Rattle.side_scan.specs.OneSide.{restarted, sideOf}
+use Rattle.leaves_score.specs.Column.{sizeOf, labelled, ownOf, sideAtStart, stepBoth, ended, scanRows, scanColumn}
 use Rattle.leaves_score.specs.Scan.{perfect, scanColumns, startBoth, scanned, sidesOf}
 use Rattle.leaves_score.specs.Lists.{scanOf, Lent, Scannable}
 
@@ -46,7 +46,7 @@ module _ (s : Sheet) (mark : ℕ → Bool) where
 
   column-alike : (c : ℕ) (b : Two) → scanColumn (scanOf s) mark c b ≡ scanColumn s mark c b
   unfolding scanColumn
-  column-alike c b = rows-alike c (s .rows) 0 (record { left = cleared (b .left); right = cleared (b .right) })
+  column-alike c b = rows-alike c (s .rows) 0 (record { left = restarted (b .left); right = restarted (b .right) })
 
   columns-alike : (n c : ℕ) (b : Two) → scanColumns (scanOf s) mark n c b ≡ scanColumns s mark n c b
   unfolding scanColumns
@@ -57,7 +57,7 @@ module _ (s : Sheet) (mark : ℕ → Bool) where
       ∙ ap (λ (x : Two). pick (perfect next) next x) (columns-alike n (suc c) next)
 
   start-alike : (support : ℕ) → startBoth (scanOf s) support mark ≡ startBoth s support mark
-  unfolding startBoth startOf ownOf labelled labelOf sizeOf
+  unfolding startBoth sideAtStart ownOf labelled labelOf sizeOf
   start-alike support = refl
 
   pub same-sides : (support : ℕ) → sidesOf (scanOf s) support mark ≡ sidesOf s support mark

@@ -15,15 +15,15 @@ use Rattle.sheet.specs.Limits.{mostLabels}
 use Rattle.sheet.specs.Sheet.{Sheet, valueOf, labelOf, rowAt, everyRow}
 use Rattle.sheet.proofs.Index.{column-in}
 use Rattle.side_scan.specs.declared.SideScan.{SideScan}
-use Rattle.two_sides.specs.declared.Two.{Two}
-use Rattle.side_scan.specs.OneSide.{cleared, leafLabel, leafScore, sideOf}
-use Rattle.two_sides.specs.Column.{other, sizeOf, labelled, ownOf, rowStep, stepBoth, ended, scanRows, scanColumn}
+use Rattle.leaves_score.specs.declared.two_sides.Two.{Two}
+use Rattle.side_scan.specs.OneSide.{restarted, leafLabel, leafScore, sideOf}
+use Rattle.leaves_score.specs.Column.{other, sizeOf, labelled, ownOf, rowStep, stepBoth, ended, scanRows, scanColumn}
 use Rattle.leaves_score.specs.Scan.{perfect, scanColumns, startBoth, scanned}
-use Rattle.two_sides.specs.Kept.{Alike, BothAlike, Owns}
-use Rattle.side_scan.specs.Step.{Sized}
-use Rattle.two_sides.specs.Lists.{goLeft, Numbered, ReadyColumn}
+use Rattle.leaves_score.specs.Kept.{Alike, BothAlike, Owns}
+use Rattle.side_scan.specs.Step.{SideSized}
+use Rattle.leaves_score.specs.SideLists.{goLeft, SidesNumbered, ReadyColumn}
 use Rattle.leaves_score.specs.Lists.{Scannable}
-use Rattle.two_sides.proofs.Live.{left-is, right-is, owns-step, owns-cleared, owns-start, rows-order, begin-live}
+use Rattle.leaves_score.proofs.Live.{left-is, right-is, owns-step, owns-cleared, owns-start, rows-order, begin-live}
 
 -- ---- both sides keep their own numbers
 
@@ -53,7 +53,7 @@ module _ (s : Sheet) (support : ℕ) (mark : ℕ → Bool) where
   pub both-column : (c : ℕ) (b : Two) → Both b → Both (scanColumn s mark c b)
   unfolding scanColumn
   both-column c b h =
-      both-rows c (s .rows) 0 (record { left = cleared (b .left); right = cleared (b .right) })
+      both-rows c (s .rows) 0 (record { left = restarted (b .left); right = restarted (b .right) })
       (record { left = owns-cleared s support mark (b .left) (h .left); right = owns-cleared s support (other mark) (b .right) (h .right) })
 
   both-columns : (n c : ℕ) (b : Two) → Both b → Both (scanColumns s mark n c b)
@@ -84,7 +84,7 @@ module _ (s : Sheet) (support : ℕ) (mine : ℕ → Bool) (t : SideScan) (h : O
       ap (λ (xs : List ℕ). getD xs l 0) (h .own-is)
       ∙ unfold ownOf labelled in getD-table (λ l. tally (λ r. mine r && eqb (labelOf s r) l) (everyRow s)) mostLabels l 0 k
 
-  pub sized : 1 ≤ s .labels → s .labels ≤ mostLabels → Sized t
+  pub sized : 1 ≤ s .labels → s .labels ≤ mostLabels → SideSized t
   unfolding sizeOf
   sized some most =
       record {
@@ -117,16 +117,16 @@ columns-follow s mark (suc n) c a b h =
     same = unfold scanColumn in ap₂ (λ (l r : SideScan). scanRows s mark c (s .rows) 0 (record { left = l; right = r })) (h .left) (h .right)
 
 perfect-alike : (a b : Two) → BothAlike a b → perfect a ≡ perfect b
-unfolding perfect cleared
+unfolding perfect restarted
 perfect-alike a b h =
     ap₂ (λ (l r : SideScan). eqb (l .best .score) (l .size) && eqb (r .best .score) (r .size)) (h .left) (h .right)
 
 pub side-alike : (a b : SideScan) → Alike a b → sideOf a ≡ sideOf b
-unfolding sideOf cleared leafLabel leafScore
+unfolding sideOf restarted leafLabel leafScore
 side-alike a b e = ap sideOf e
 
 pub owns-alike : (s : Sheet) (support : ℕ) (mine : ℕ → Bool) (a b : SideScan) → Alike a b → Owns s support mine b → Owns s support mine a
-unfolding cleared
+unfolding restarted
 owns-alike s support mine a b e o = subst (Owns s support mine) (sym e) o
 
 pub both-alike : (s : Sheet) (support : ℕ) (mark : ℕ → Bool) (a b : Two) → BothAlike a b → Both s support mark b → Both s support mark a
@@ -203,7 +203,7 @@ module _ (s : Sheet) (support : ℕ) (mark : ℕ → Bool) where
           }
 
 -- the column finds what it goes by
-module _ (s : Sheet) (support : ℕ) (marks sides : List ℕ) (k : Scannable s marks) (n : Numbered (s .rows) marks sides) where
+module _ (s : Sheet) (support : ℕ) (marks sides : List ℕ) (k : Scannable s marks) (n : SidesNumbered (s .rows) marks sides) where
   pub ready-column : (c : ℕ) (b : Two) → c < s .columns → Both s support (goLeft sides) b → ReadyColumn s sides c b
   ready-column c b h o =
       record {

@@ -2,3 +2,13 @@ pub mod Recorded
 pub mod Columns
 pub mod Marks
 pub mod Accepted
+pub mod Counts
+pub mod Live
+pub mod Single
+pub mod Coupled
+pub mod Places
+pub mod Rows
+pub mod Column
+pub mod Abreast
+pub mod Leveled
+pub mod Walk

@@ -11,13 +11,12 @@ use Rattle.basics.specs.Lists.{tally, table}
 use Rattle.basics.proofs.Lists.{table-same}
 use Rattle.sheet.specs.Limits.{mostLabels}
 use Rattle.sheet.specs.Sheet.{Sheet, labelOf, rowAt, everyRow, leastRows}
-use Rattle.two_sides.specs.declared.Two.{Two}
+use Rattle.leaves_score.specs.declared.two_sides.Two.{Two}
 use Rattle.side_scan.specs.declared.SideScan.{SideScan}
-use Rattle.best_counts.specs.Commonest.{mostOf}
-use Rattle.side_scan.specs.OneSide.{leafBest, cleared, sideOf}
-use Rattle.two_sides.specs.Column.{other, sizeOf, labelled, ownOf, startOf, rowStep, stepBoth, ended, scanRows, scanColumn}
+use Rattle.side_scan.specs.Commonest.{mostOf}
+use Rattle.side_scan.specs.OneSide.{leafBest, restarted, sideOf, atStart}
+use Rattle.leaves_score.specs.Column.{other, sizeOf, labelled, ownOf, sideAtStart, rowStep, stepBoth, ended, scanRows, scanColumn}
 use Rattle.leaves_score.specs.Scan.{perfect, scanColumns, startBoth, scanned, sidesOf}
-use Rattle.side_scan.specs.Step.{atStart}
 
 tally-table : (p q : ℕ → Bool) (f : ℕ → ℕ) (n : ℕ) → ((k : ℕ) → k < n → bit (p (f k)) ≡ bit (q (f k))) → tally p (table f n) ≡ tally q (table f n)
 tally-table p q f zero h = refl
@@ -27,8 +26,8 @@ tally-table p q f (suc n) h = omega (arith, h 0 (omega arith), tally-table p q (
 pub rows-alike : (s : Sheet) (p q : ℕ → Bool) → ((r : ℕ) → r < s .rows → bit (p r) ≡ bit (q r)) → tally p (everyRow s) ≡ tally q (everyRow s)
 rows-alike s p q h = tally-table p q (λ r. r) (s .rows) h
 
-start-alike : (s : Sheet) (support : ℕ) (p q : ℕ → Bool) → ((r : ℕ) → r < s .rows → p r ≡ q r) → startOf s support p ≡ startOf s support q
-unfolding startOf ownOf sizeOf labelled
+start-alike : (s : Sheet) (support : ℕ) (p q : ℕ → Bool) → ((r : ℕ) → r < s .rows → p r ≡ q r) → sideAtStart s support p ≡ sideAtStart s support q
+unfolding sideAtStart ownOf sizeOf labelled
 start-alike s support p q same =
     ap₂ (λ (own : List ℕ) (size : ℕ). atStart own size (s .labels) (leastRows support) (leafBest (mostOf (λ l. getD own l 0) (s .labels))))
     (table-same (labelled s p) (labelled s q) mostLabels
@@ -52,7 +51,7 @@ module _ (s : Sheet) (p q : ℕ → Bool) (in-rows : (c : ℕ) → c < s .column
 
   column-alike : (c : ℕ) → c < s .columns → (b : Two) → scanColumn s p c b ≡ scanColumn s q c b
   unfolding scanColumn
-  column-alike c here b = scan-alike c here (s .rows) 0 (record { left = cleared (b .left); right = cleared (b .right) }) (omega arith)
+  column-alike c here b = scan-alike c here (s .rows) 0 (record { left = restarted (b .left); right = restarted (b .right) }) (omega arith)
 
   columns-alike : (n c : ℕ) (b : Two) → c + n ≤ s .columns → scanColumns s p n c b ≡ scanColumns s q n c b
   unfolding scanColumns

@@ -3,13 +3,13 @@ use mathlib.Core.Path.{refl}
 use lib.Ieee.{eq, lt, add, div, sum, round, units, odd, span, climb, size}
 use Rattle.threshold.specs.Threshold.{midpointOf, thresholdOf}
 use Rattle.sheet.specs.Sheet.{valueOf, labelOf, rowAt}
-use Rattle.leaves_score.specs.Scan.{computes}
+use Rattle.leaves_score.specs.Scan.{scanComputes}
 use Rattle.leaves_score.specs.Recorded.{RemainderCloses, RemainderTaken}
 
 pub remainder-closes : RemainderCloses
-unfolding computes valueOf labelOf rowAt midpointOf thresholdOf eq lt add div sum round units odd span climb size
+unfolding scanComputes valueOf labelOf rowAt midpointOf thresholdOf eq lt add div sum round units odd span climb size
 remainder-closes = refl
 
 pub remainder-taken : RemainderTaken
-unfolding computes valueOf labelOf rowAt midpointOf thresholdOf eq lt add div sum round units odd span climb size
+unfolding scanComputes valueOf labelOf rowAt midpointOf thresholdOf eq lt add div sum round units odd span climb size
 remainder-taken = refl

@@ -31,8 +31,8 @@ firstSix r = ltb r 6
 
 -- 1 is possible: the three rows up to 3.0 left, with label 0, the other three right, with label 1
 abbrev pub RemainderCloses : Type 0
-RemainderCloses = (sidesOf sixAndOne 3 firstSix) .left ≡ Leaf 1 2
+RemainderCloses = (sidesOf sixAndOne 3 firstSix) .left ≡ Leaf (record { label = 1; error = 2 })
 
 -- with support 2 the same side splits without an error
 abbrev pub RemainderTaken : Type 0
-RemainderTaken = (sidesOf sixAndOne 2 firstSix) .left ≡ Split 0 (fin false 5 (negsuc 0)) 0 1 0 0
+RemainderTaken = (sidesOf sixAndOne 2 firstSix) .left ≡ Split (record { column = 0; threshold = fin false 5 (negsuc 0) }) (record { label = 0; error = 0 }) (record { label = 1; error = 0 })

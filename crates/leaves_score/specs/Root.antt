@@ -5,6 +5,7 @@ use lib.Ieee.{Float}
 use Rattle.threshold.specs.Threshold.{thresholdOf, goesLeft}
 use Rattle.sheet.specs.Sheet.{Sheet, valueOf, valueAt, placeOf}
 use Rattle.tree.specs.Answer.{sideError}
+use Rattle.tree.specs.declared.Question.{Question}
 use Rattle.leaves_score.specs.declared.Sides.{Sides}
 use Rattle.leaves_score.specs.Scan.{sidesOf}
 
@@ -16,13 +17,17 @@ precedingPlace s c (suc k) = placeOf s c k
 unfoldable pub cutThreshold : Sheet → ℕ → ℕ → Float
 cutThreshold s c k = thresholdOf (valueAt s c (precedingPlace s c k)) (valueAt s c (placeOf s c k))
 
--- "Rows with value ≤ threshold go left."
-unfoldable pub markOf : Sheet → ℕ → Float → ℕ → Bool
-markOf s c t r = goesLeft (valueOf s c r) t
+-- cut number k of column c as a question
+abbrev pub cutQuestion : Sheet → ℕ → ℕ → Question
+cutQuestion s c k = record { column = c; threshold = cutThreshold s c k }
+
+-- "Rows with value ≤ threshold go left.": what a question does with a row
+unfoldable pub markOf : Sheet → Question → ℕ → Bool
+markOf s q r = goesLeft (valueOf s (q .column) r) (q .threshold)
 
 -- the two sides at cut number k of column c
 unfoldable pub sidesAt : Sheet → ℕ → ℕ → ℕ → Sides
-sidesAt s support c k = sidesOf s support (markOf s c (cutThreshold s c k))
+sidesAt s support c k = sidesOf s support (markOf s (cutQuestion s c k))
 
 -- their errors, which the search of a column goes by
 unfoldable pub errorsAt : Sheet → ℕ → ℕ → ℕ → ℕ × ℕ

@@ -7,8 +7,8 @@ use Rattle.basics.specs.Choice.{pick}
 use Rattle.sheet.specs.Sheet.{Sheet}
 use Rattle.side_scan.specs.OneSide as one
 use Rattle.side_scan.specs.OneSide.{sideOf}
-use Rattle.two_sides.specs.declared.Two.{Two}
-use Rattle.two_sides.specs.Column.{other, sizeOf, labelled, ownOf, startOf, stepBoth, idle, ended, scanRows, scanColumn}
+use Rattle.leaves_score.specs.declared.two_sides.Two.{Two}
+use Rattle.leaves_score.specs.Column.{other, sizeOf, labelled, ownOf, sideAtStart, stepBoth, idle, ended, scanRows, scanColumn}
 use Rattle.leaves_score.specs.declared.Sides.{Sides}
 
 -- ---- all columns
@@ -28,7 +28,7 @@ scanColumns s mark (suc n) c b =
 -- ---- the two sides
 
 unfoldable pub startBoth : Sheet → ℕ → (ℕ → Bool) → Two
-startBoth s support mark = record { left = startOf s support mark; right = startOf s support (other mark) }
+startBoth s support mark = record { left = sideAtStart s support mark; right = sideAtStart s support (other mark) }
 
 unfoldable pub scanned : Sheet → ℕ → (ℕ → Bool) → Two
 scanned s support mark = scanColumns s mark (s .columns) 0 (startBoth s support mark)
@@ -39,7 +39,7 @@ sidesOf s support mark =
     let z : Two = scanned s support mark in
     record { left = sideOf (z .left); right = sideOf (z .right) }
 
--- `unfolding computes` opens every definition of the scan at once
-unfoldable pub computes : Unit {0}
-unfolding pick one.computes sizeOf labelled ownOf startOf stepBoth idle ended scanRows scanColumn perfect scanColumns startBoth scanned sidesOf
-computes = tt
+-- `unfolding scanComputes` opens every definition of the scan at once
+unfoldable pub scanComputes : Unit {0}
+unfolding pick one.sideComputes sizeOf labelled ownOf sideAtStart stepBoth idle ended scanRows scanColumn perfect scanColumns startBoth scanned sidesOf
+scanComputes = tt

@@ -1,18 +1,22 @@
 // The scan of the two sides of a root split: the best single question for each side, in one pass over each column.
+mod few_rows;
+mod many_rows;
+pub mod two_sides;
+
 ghost use mathlib.Core.Path.{_≡_};
 ghost use Rattle.sheet.specs.Sheet.{leastRows};
-ghost use Rattle.two_sides.specs.Column.{scanColumn};
-ghost use Rattle.two_sides.specs.Kept.{BothAlike};
-ghost use Rattle.two_sides.specs.Lists.{sheetOf, goLeft, ReadyColumn};
+ghost use Rattle.leaves_score.specs.Column.{scanColumn};
+ghost use Rattle.leaves_score.specs.Kept.{BothAlike};
+ghost use Rattle.leaves_score.specs.SideLists.{scanSheet, goLeft, ReadyColumn};
 ghost use Rattle.leaves_score.specs.Scan.{perfect, scanned, sidesOf};
 ghost use Rattle.leaves_score.specs.Lists.{Scannable};
-use few_rows::scan_few;
-use many_rows::scan_many;
+use crate::few_rows::scan_few;
+use crate::many_rows::scan_many;
+use crate::two_sides::Two;
+use crate::two_sides::part_rows;
 use sheet::MOST_ROWS;
 use sheet::Size;
 use tree::Side;
-use two_sides::Two;
-use two_sides::part_rows;
 
 // On a sheet of at most so many rows a column is walked record by record; on more, copying the records costs more than their rows.
 const FEW_ROWS: usize = 4;
@@ -33,8 +37,8 @@ fn scan_column(
     order: &[u16],
     sides: &[u8; MOST_ROWS],
 ) -> Two
-    requires { ⌜ ReadyColumn (sheetOf size (now values) (now codes) (now order)) (now sides) column both ⌝ }
-    ensures { λ r. ⌜ BothAlike r (scanColumn (sheetOf size (now (values .entry)) (now (codes .entry)) (now (order .entry))) (goLeft (now (sides .entry))) column both) ⌝ }
+    requires { ⌜ ReadyColumn (scanSheet size (now values) (now codes) (now order)) (now sides) column both ⌝ }
+    ensures { λ r. ⌜ BothAlike r (scanColumn (scanSheet size (now (values .entry)) (now (codes .entry)) (now (order .entry))) (goLeft (now (sides .entry))) column both) ⌝ }
 {
     if size.rows <= FEW_ROWS {
         return scan_few(both, size, column, values, codes, order, sides);
@@ -70,8 +74,8 @@ fn scan_columns(
     order: &[u16],
     marks: &[u32],
 ) -> Two
-    requires { ⌜ Scannable (sheetOf size (now values) (now codes) (now order)) (now marks) ⌝ }
-    ensures { λ r. ⌜ BothAlike r (scanned (sheetOf size (now (values .entry)) (now (codes .entry)) (now (order .entry))) support (goLeft (now (marks .entry)))) ⌝ }
+    requires { ⌜ Scannable (scanSheet size (now values) (now codes) (now order)) (now marks) ⌝ }
+    ensures { λ r. ⌜ BothAlike r (scanned (scanSheet size (now (values .entry)) (now (codes .entry)) (now (order .entry))) support (goLeft (now (marks .entry)))) ⌝ }
 {
     let mut numbers: [u8; MOST_ROWS] = [0; MOST_ROWS];
     let parted = part_rows(size.rows, codes, marks, &mut numbers);
@@ -101,8 +105,8 @@ pub fn get_leaves_score(
     order: &[u16],
     marks: &[u32],
 ) -> Sides
-    requires { ⌜ Scannable (sheetOf size (now values) (now codes) (now order)) (now marks) ⌝ }
-    ensures { λ r. ⌜ r ≡ sidesOf (sheetOf size (now (values .entry)) (now (codes .entry)) (now (order .entry))) support (goLeft (now (marks .entry))) ⌝ }
+    requires { ⌜ Scannable (scanSheet size (now values) (now codes) (now order)) (now marks) ⌝ }
+    ensures { λ r. ⌜ r ≡ sidesOf (scanSheet size (now (values .entry)) (now (codes .entry)) (now (order .entry))) support (goLeft (now (marks .entry))) ⌝ }
 {
     let both = scan_columns(size, support, values, codes, order, marks);
     let first = both.left;

@@ -4,10 +4,10 @@ use mathlib.Core.List.{map}
 use lib.Ieee.{ofBits, toBits}
 use Rattle.basics.specs.Choice.{pick}
 use Rattle.basics.specs.Walk.{walk}
-use Rattle.digits.specs.Digits.{digitOf, placesOf, decimalOf, hexOf}
-use Rattle.listing.specs.Listing.{field, spotOf, questionOf, scoreOf, lineOf, leafOf, splitOf, sideOf, foundOf, keptOf, refusedOf, ruleOf, listingOf}
-use Rattle.listing.specs.Table.{Entry, entry1, entry2, entry3, entry4, tableT}
+use Rattle.digits.specs.Digits.{digitOf, digitsIn, decimalOf, hexOf}
+use Rattle.listing.specs.Listing.{field, spotOf, questionOf, scoreOf, lineOf, leafOf, splitOf, sideLine, foundOf, keptOf, refusedOf, ruleLines, listingOf}
+use Rattle.listing.specs.Table.{ListingEntry, entry1, entry2, entry3, entry4, tableListed}
 
-pub table-t : map (λ (e : Entry). listingOf (e .answer)) tableT ≡ map (λ (e : Entry). e .text) tableT
-unfolding tableT entry1 entry2 entry3 entry4 listingOf ruleOf refusedOf keptOf foundOf sideOf splitOf leafOf lineOf scoreOf questionOf spotOf field hexOf decimalOf placesOf digitOf pick walk ofBits toBits
+pub table-t : map (λ (e : ListingEntry). listingOf (e .answer)) tableListed ≡ map (λ (e : ListingEntry). e .text) tableListed
+unfolding tableListed entry1 entry2 entry3 entry4 listingOf ruleLines refusedOf keptOf foundOf sideLine splitOf leafOf lineOf scoreOf questionOf spotOf field hexOf decimalOf digitsIn digitOf pick walk ofBits toBits
 table-t = refl

@@ -2,7 +2,7 @@
 use mathlib.Core.Path.{sym, _∙_}
 use Rattle.prepare.proofs.Soundness.{determined}
 use Rattle.rule_finder.proofs.Laws.{outcomes-coincide}
-use Rattle.outcomes.specs.Outcomes.{Equation, ThresholdBetween, GoesLeft, InRange, SentLeft, LeftOfCut, FirstBadValue, FirstBadLabel, SizeHolds, Check, Prepare, PlaceAt, ReaderLowerBound, ReaderUpperBound, LowerBound, UpperBound, FeasibleSplits, AddResult, SubintervalPruning, IntervalShrinking, NeighbourhoodPruning, Push, Pop, GetLeavesScore, Search, Judge, ReadSheet, WriteAnswer, BitsOf, RunText, ScanCut, TellPrepared, TellChecked, TellSearched, TellScanned, FinderPrepare, FinderCheck, FinderSearch, FinderScan}
+use Rattle.outcomes.specs.Outcomes.{Equation, ThresholdBetween, GoesLeft, RangeAnswer, SentLeft, LeftOfCut, FirstBadValue, FirstBadLabel, SizeHolds, GridHolds, TermsHold, Check, Prepare, PlaceAt, ReaderLowerBound, ReaderUpperBound, LowerBound, UpperBound, FeasibleSplits, AddResult, SubintervalPruning, IntervalShrinking, NeighbourhoodPruning, Push, Pop, GetLeavesScore, Search, Judge, ReadSheet, WriteAnswer, BitsOf, RunText, TellPrepared, TellChecked, TellSearched, FinderPrepare, FinderCheck, FinderSearch}
 
 pub equation : Equation
 equation A said a b p q = p ∙ sym q
@@ -13,7 +13,7 @@ threshold-between lower upper a b p q = p ∙ sym q
 pub goes-left : GoesLeft
 goes-left value threshold a b p q = p ∙ sym q
 
-pub in-range : InRange
+pub in-range : RangeAnswer
 in-range value a b p q = p ∙ sym q
 
 pub sent-left : SentLeft
@@ -29,7 +29,13 @@ pub first-bad-label : FirstBadLabel
 first-bad-label codes labels a b p q = p ∙ sym q
 
 pub size-holds : SizeHolds
-size-holds s a b p q = p ∙ sym q
+size-holds rows columns labels a b p q = p ∙ sym q
+
+pub grid-holds : GridHolds
+grid-holds rows columns a b p q = p ∙ sym q
+
+pub terms-hold : TermsHold
+terms-hold t a b p q = p ∙ sym q
 
 pub check : Check
 check s t scratch a b p q = p ∙ sym q
@@ -94,9 +100,6 @@ bits-of x a b p q = p ∙ sym q
 pub run-text : RunText
 run-text = outcomes-coincide
 
-pub scan-cut : ScanCut
-scan-cut s t column cut scratch a b p q = p ∙ sym q
-
 pub tell-prepared : TellPrepared
 tell-prepared done answer a b p q = p ∙ sym q
 
@@ -106,9 +109,6 @@ tell-checked checked answer a b p q = p ∙ sym q
 pub tell-searched : TellSearched
 tell-searched found answer a b p q = p ∙ sym q
 
-pub tell-scanned : TellScanned
-tell-scanned scanned answer a b p q = p ∙ sym q
-
 pub finder-prepare : FinderPrepare
 finder-prepare numbers values order cuts counts answer a b p q = p ∙ sym q
 
@@ -117,6 +117,3 @@ finder-check numbers values codes order cuts counts scratch answer a b p q = p �
 
 pub finder-search : FinderSearch
 finder-search numbers values codes order cuts counts scratch answer a b p q = p ∙ sym q
-
-pub finder-scan : FinderScan
-finder-scan numbers values codes order cuts counts scratch answer a b p q = p ∙ sym q

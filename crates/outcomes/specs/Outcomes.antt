@@ -9,11 +9,11 @@ use lib.Ieee.{Float, binary64, toBits}
 use denote.Ref.{now}
 use Rattle.basics.specs.Walk.{walk}
 use Rattle.threshold.specs.Threshold.{thresholdOf, goesLeft, within}
-use Rattle.parting.specs.Column.{leftOf, leftOfCut}
+use Rattle.threshold.specs.Column.{countLeft, leftOfCut}
 use Rattle.sheet.specs.declared.Terms.{Terms}
 use Rattle.sheet.specs.declared.Checked.{Checked}
 use Rattle.sheet.specs.Sheet.{Sheet}
-use Rattle.sheet.specs.Check.{badValue, badLabel, sizeHolds, checkOf, scratchAfter}
+use Rattle.sheet.specs.Check.{badValue, badLabel, gridHolds, sizeHolds, termsHold, checkOf, scratchAfter}
 use Rattle.cuts.specs.declared.CutReader.{CutReader}
 use Rattle.cuts.specs.declared.Run.{Run}
 use Rattle.cuts.specs.Lookups.{Ascending, place, lowerBoundOf, upperBoundOf}
@@ -23,7 +23,7 @@ use Rattle.interval_pruner.specs.declared.Zeros.{Zeros}
 use Rattle.interval_pruner.specs.declared.Shrunk.{Shrunk}
 use Rattle.interval_pruner.specs.declared.Parts.{Parts}
 use Rattle.interval_pruner.specs.Column.{Column}
-use Rattle.interval_pruner.specs.Pruner.{zerosAfter, recordedAfter, hopeless, shrunkOf, partsOf, Listed}
+use Rattle.interval_pruner.specs.Pruner.{zerosAfter, recordedAfter, hopeless, shrunkOf, partsOf, PartsListed}
 use Rattle.interval_queue.specs.declared.Queue.{Queue}
 use Rattle.interval_queue.specs.declared.Popped.{Popped}
 use Rattle.interval_queue.specs.Ring.{pushed, pushedWords, popped}
@@ -39,14 +39,11 @@ use Rattle.prepare.specs.Laws.{Determined}
 use Rattle.sheet_bytes.specs.declared.Read.{Read}
 use Rattle.sheet_bytes.specs.Read as bytes
 use Rattle.listing.specs.Listing.{writtenOf, outOf}
-use Rattle.cut_scan.specs.declared.Scanned.{Scanned}
-use Rattle.cut_scan.specs.CutScan.{scannedOf}
 use Rattle.rule_finder.specs.Laws as finder
-use Rattle.c_numbers.specs.Numbers.{termsIn}
-use Rattle.c_told.specs.Told.{written, preparedTold, checkedTold}
-use Rattle.c_words.specs.Rule.{searchWords}
-use Rattle.c_scan_words.specs.Scan.{scanWords}
-use Rattle.c_face.specs.Face.{sheetIn, prepareAnswer, checkAnswer, searchAnswer, scanAnswer}
+use Rattle.c_face.specs.Numbers.{termsIn}
+use Rattle.c_face.specs.Told.{written, preparedTold, checkedTold}
+use Rattle.c_face.specs.Rule.{searchWords}
+use Rattle.c_face.specs.Face.{sheetIn, prepareAnswer, checkAnswer, searchAnswer}
 
 -- two outcomes that are what an equation says
 abbrev pub One : (A : Type 0) → A → Type 0
@@ -64,11 +61,11 @@ ThresholdBetween = (lower upper : Float) → One Float (thresholdOf lower upper)
 abbrev pub GoesLeft : Type 0
 GoesLeft = (value threshold : Float) → One Bool (goesLeft value threshold)
 
-abbrev pub InRange : Type 0
-InRange = (value : Float) → One Bool (within value)
+abbrev pub RangeAnswer : Type 0
+RangeAnswer = (value : Float) → One Bool (within value)
 
 abbrev pub SentLeft : Type 0
-SentLeft = (values : List Float) (threshold : Float) → One ℕ (leftOf values threshold)
+SentLeft = (values : List Float) (threshold : Float) → One ℕ (countLeft values threshold)
 
 abbrev pub LeftOfCut : Type 0
 LeftOfCut = (values : List Float) (at : ℕ) → One ℕ (leftOfCut values at)
@@ -82,7 +79,13 @@ abbrev pub FirstBadLabel : Type 0
 FirstBadLabel = (codes : List ℕ) (labels : ℕ) → One ℕ (walk (badLabel codes labels) (length codes) 0)
 
 abbrev pub SizeHolds : Type 0
-SizeHolds = (s : Sheet) → One Bool (sizeHolds s)
+SizeHolds = (rows columns labels : ℕ) → One Bool (sizeHolds rows columns labels)
+
+abbrev pub GridHolds : Type 0
+GridHolds = (rows columns : ℕ) → One Bool (gridHolds rows columns)
+
+abbrev pub TermsHold : Type 0
+TermsHold = (t : Terms) → One Bool (termsHold t)
 
 abbrev pub Check : Type 0
 Check =
@@ -131,7 +134,7 @@ IntervalShrinking = (c : Column) (zeros : Zeros) (best : ℕ) (bound : Bound) �
 
 abbrev pub NeighbourhoodPruning : Type 0
 NeighbourhoodPruning =
-    (c : Column) (zeros : Zeros) (excess cut first : ℕ) → Listed (c .places) zeros cut → One Parts (partsOf c zeros excess cut first)
+    (c : Column) (zeros : Zeros) (excess cut first : ℕ) → PartsListed (c .places) zeros cut → One Parts (partsOf c zeros excess cut first)
 
 abbrev pub Push : Type 0
 Push = (words : List ℕ) (queue : Queue) (bound : Bound) → One (Queue × List ℕ) (pushed words queue, pushedWords words queue bound)
@@ -156,7 +159,7 @@ Judge = (s : Sheet) (tree : Tree) → One Verdict (judgeOf s tree)
 abbrev pub ReadSheet : Type 0
 ReadSheet =
     (sheet : List ℕ) (values : List Float) (codes : List ℕ)
-    → let read : Read = bytes.answerOf sheet (length values) (length codes) in
+    → let read : Read = bytes.readAnswer sheet (length values) (length codes) in
     One (Read × (List Float × List ℕ)) (read, (bytes.valuesIn read sheet values, bytes.codesIn read sheet codes))
 
 abbrev pub WriteAnswer : Type 0
@@ -167,14 +170,9 @@ BitsOf = (x : Float) → One ℕ (toBits binary64 x)
 
 -- `run`
 abbrev pub RunText : Type 0
-RunText = finder.OutcomesCoincide
+RunText = finder.RunsCoincide
 
 -- ---- callers from C: the answer's words, and scratch
-
-abbrev pub ScanCut : Type 0
-ScanCut =
-    (s : Sheet) (t : Terms) (column cut : ℕ) (scratch : List ℕ)
-    → One (Scanned × List ℕ) (scannedOf s t column cut (length scratch), scratchOf s t scratch)
 
 abbrev pub TellPrepared : Type 0
 TellPrepared = (done : Prepared) (answer : List ℕ) → One (List ℕ) (preparedTold done answer)
@@ -184,9 +182,6 @@ TellChecked = (checked : Checked) (answer : List ℕ) → One (List ℕ) (checke
 
 abbrev pub TellSearched : Type 0
 TellSearched = (found : Answer) (answer : List ℕ) → One (List ℕ) (written (searchWords found) answer)
-
-abbrev pub TellScanned : Type 0
-TellScanned = (scanned : Scanned) (answer : List ℕ) → One (List ℕ) (written (scanWords scanned) answer)
 
 -- the three lists are those of `Prepare`
 abbrev pub FinderPrepare : Type 0
@@ -205,13 +200,5 @@ FinderSearch =
     (numbers : List ℕ) (values : List Float) (codes order cuts counts scratch answer : List ℕ)
     → One (List ℕ × List ℕ) (
       written (searchWords (searchAnswer numbers values codes order cuts counts (length scratch))) answer,
-      scratchOf (sheetIn numbers values codes order cuts counts) (termsIn numbers) scratch,
-    )
-
-abbrev pub FinderScan : Type 0
-FinderScan =
-    (numbers : List ℕ) (values : List Float) (codes order cuts counts scratch answer : List ℕ)
-    → One (List ℕ × List ℕ) (
-      written (scanWords (scanAnswer numbers values codes order cuts counts (length scratch))) answer,
       scratchOf (sheetIn numbers values codes order cuts counts) (termsIn numbers) scratch,
     )

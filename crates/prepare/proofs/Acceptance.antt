@@ -7,10 +7,10 @@ use lib.ListN.{length}
 use lib.Ieee.{Float}
 use Rattle.sheet.specs.Laws.{Lengths}
 use Rattle.sheet.proofs.Good.{sound-accepted}
-use Rattle.column_lists.specs.Lists.{orderOf, cutsOf, countOf}
-use Rattle.prepare.specs.Prepared.{columnOf, orderList, cutList, countList}
+use Rattle.prepare.specs.Lists.{rowsInOrder, cutSlots, cutCount}
+use Rattle.prepare.specs.Prepared.{columnValues, orderList, cutList, countList}
 use Rattle.prepare.specs.Laws.{preparedSheet, Taken, NeverRefused}
-use Rattle.column_lists.proofs.Columns.{order-length}
+use Rattle.prepare.proofs.Columns.{order-length}
 use Rattle.prepare.proofs.Joining.{cuts-length, joined-length}
 use Rattle.prepare.proofs.Answering.{accepted}
 use Rattle.prepare.proofs.Soundness.{sound-sheet}
@@ -22,9 +22,9 @@ lengths rows columns labels values codes K e =
     record {
       values-all = accepted rows columns values (rows * columns) (rows * columns) columns (K .done) .values-exact ∙ mul-comm rows columns;
       codes-all = e;
-      order-all = joined-length (λ c. orderOf rows (columnOf rows values c)) rows (λ c. order-length (columnOf rows values c) rows) columns;
-      cuts-all = joined-length (λ c. cutsOf rows (columnOf rows values c)) rows (λ c. cuts-length rows (columnOf rows values c)) columns;
-      counts-all = joined-length (λ c. countOf rows (columnOf rows values c) ∷ []) 1 (λ c. refl) columns ∙ mul-one columns;
+      order-all = joined-length (λ c. rowsInOrder rows (columnValues rows values c)) rows (λ c. order-length (columnValues rows values c) rows) columns;
+      cuts-all = joined-length (λ c. cutSlots rows (columnValues rows values c)) rows (λ c. cuts-length rows (columnValues rows values c)) columns;
+      counts-all = joined-length (λ c. cutCount rows (columnValues rows values c) ∷ []) 1 (λ c. refl) columns ∙ mul-one columns;
     }
 
 pub never-refused : NeverRefused

@@ -6,72 +6,39 @@ use native.Mathlib.Nat.{mul-le-mul}
 use mathlib.Core.Bool.{Bool, true, false, not, _&&_}
 use mathlib.Core.List.{List}
 use lib.ListN.{length, getD}
-use lib.Dec.{T, leb, ltb, eqb, leb→le, eqb→eq}
+use lib.Dec.{T, ltb, eqb, eqb→eq}
 use lib.Ieee.{Float, nan, binary64, fits}
-use borrow.Author.Tests.{eqb-true, ltb-false, le-leb, lt-leb, lt-ltb, le-ltb, eq-eqb, ne-eqb}
+use borrow.Author.Tests.{eqb-true, ltb-false, lt-ltb, le-ltb, eq-eqb, ne-eqb}
 use Rattle.basics.specs.Choice.{pick}
 use Rattle.basics.specs.Walk.{walk}
 use Rattle.basics.proofs.Choice.{and-left, and-right}
 use Rattle.basics.proofs.Walk.{walked, walk-unique}
-use Rattle.order.proofs.Order.{finite-comparable}
+use Rattle.threshold.proofs.Keys.{finite-comparable}
 use Rattle.threshold.specs.Threshold.{within}
 use Rattle.threshold.proofs.Law.{within-finite}
 use Rattle.sheet.specs.Limits.{mostRows, mostColumns}
-use Rattle.sheet.specs.Check.{badValue}
+use Rattle.sheet.specs.Check.{gridHolds, badValue}
+use Rattle.sheet.proofs.Answer.{rows-inside, columns-inside}
 use Rattle.prepare.specs.declared.Prepared.{Prepared}
 use Rattle.prepare.specs.declared.Prepared.the-variants.{Done, Refused}
-use Rattle.prepare.specs.Prepared.{inLimits, exactRoom, firstOutside, answerOf, leaves}
+use Rattle.prepare.specs.Prepared.{exactRoom, firstOutside, prepareOf, leaves}
 use Rattle.prepare.specs.Steps.{Columns}
 
 -- ---- the limits
 
 module _ (rows columns : ℕ) where
-  pub no-row : rows < 1 → false ≡ inLimits rows columns
-  unfolding inLimits
-  no-row h = sym (ap (λ (b : Bool). b && leb rows mostRows && leb 1 columns && leb columns mostColumns) (lt-leb 1 rows h))
-
-  pub many-rows : 1 ≤ rows → mostRows < rows → false ≡ inLimits rows columns
-  unfolding inLimits
-  many-rows l h =
-      sym (ap (λ (b : Bool). b && leb rows mostRows && leb 1 columns && leb columns mostColumns) (le-leb 1 rows l)
-      ∙ ap (λ (b : Bool). b && leb 1 columns && leb columns mostColumns) (lt-leb rows mostRows h))
-
-  pub no-column : 1 ≤ rows → rows ≤ mostRows → columns < 1 → false ≡ inLimits rows columns
-  unfolding inLimits
-  no-column l m h =
-      sym (ap (λ (b : Bool). b && leb rows mostRows && leb 1 columns && leb columns mostColumns) (le-leb 1 rows l)
-      ∙ ap (λ (b : Bool). b && leb 1 columns && leb columns mostColumns) (le-leb rows mostRows m)
-      ∙ ap (λ (b : Bool). b && leb columns mostColumns) (lt-leb 1 columns h))
-
-  pub by-columns : 1 ≤ rows → rows ≤ mostRows → 1 ≤ columns → leb columns mostColumns ≡ inLimits rows columns
-  unfolding inLimits
-  by-columns l m h =
-      sym (ap (λ (b : Bool). b && leb rows mostRows && leb 1 columns && leb columns mostColumns) (le-leb 1 rows l)
-      ∙ ap (λ (b : Bool). b && leb 1 columns && leb columns mostColumns) (le-leb rows mostRows m)
-      ∙ ap (λ (b : Bool). b && leb columns mostColumns) (le-leb 1 columns h))
-
   pub record Limits : Type 0 where
     pub rows-some : 1 ≤ rows
     pub rows-most : rows ≤ mostRows
     pub columns-some : 1 ≤ columns
     pub columns-most : columns ≤ mostColumns
 
-  pub limits : inLimits rows columns ≡ true → Limits
-  unfolding inLimits
+  pub limits : gridHolds rows columns ≡ true → Limits
   limits e =
-      let t : T (inLimits rows columns) = rw e tt in
-      let a = leb 1 rows in
-      let b = leb rows mostRows in
-      let c = leb 1 columns in
-      let d = leb columns mostColumns in
-      let abc = and-left (a && b && c) d t in
-      let ab = and-left (a && b) c abc in
-      record {
-        rows-some = leb→le 1 rows (and-left a b ab);
-        rows-most = leb→le rows mostRows (and-right a b ab);
-        columns-some = leb→le 1 columns (and-right (a && b) c abc);
-        columns-most = leb→le columns mostColumns (and-right (a && b && c) d t);
-      }
+      let t : T (gridHolds rows columns) = rw e tt in
+      let r = rows-inside rows columns t in
+      let c = columns-inside rows columns t in
+      record { rows-some = r .0; rows-most = r .1; columns-some = c .0; columns-most = c .1 }
 
   pub cells-most : Limits → rows * columns ≤ mostRows * mostColumns
   cells-most l = mul-le-mul (l .rows-most) (l .columns-most)
@@ -149,29 +116,29 @@ module _ (values : List Float) where
 
 module _ (rows columns : ℕ) (values : List Float) (orders cuts counts : ℕ) where
   abbrev answer : Prepared
-  answer = answerOf rows columns values orders cuts counts
+  answer = prepareOf rows columns values orders cuts counts
 
-  pub answer-1 : inLimits rows columns ≡ false → Refused 1 0 ≡ answer
-  unfolding answerOf pick
+  pub answer-1 : gridHolds rows columns ≡ false → Refused 1 0 ≡ answer
+  unfolding prepareOf pick
   answer-1 e = rw e
 
-  pub answer-2 : inLimits rows columns ≡ true → (length values ≡ rows * columns → ⊥) → Refused 2 0 ≡ answer
-  unfolding answerOf pick
+  pub answer-2 : gridHolds rows columns ≡ true → (length values ≡ rows * columns → ⊥) → Refused 2 0 ≡ answer
+  unfolding prepareOf pick
   answer-2 e f = rw (e, ne-eqb (length values) (rows * columns) f)
 
-  pub answer-3 : inLimits rows columns ≡ true → length values ≡ rows * columns → exactRoom (rows * columns) columns orders cuts counts ≡ false
+  pub answer-3 : gridHolds rows columns ≡ true → length values ≡ rows * columns → exactRoom (rows * columns) columns orders cuts counts ≡ false
       → Refused 3 0 ≡ answer
-  unfolding answerOf pick
+  unfolding prepareOf pick
   answer-3 e f g = rw (e, eq-eqb (length values) (rows * columns) f, g)
 
-  pub answer-5 : inLimits rows columns ≡ true → length values ≡ rows * columns → exactRoom (rows * columns) columns orders cuts counts ≡ true
+  pub answer-5 : gridHolds rows columns ≡ true → length values ≡ rows * columns → exactRoom (rows * columns) columns orders cuts counts ≡ true
       → firstOutside values < length values → Refused 5 (firstOutside values) ≡ answer
-  unfolding answerOf pick
+  unfolding prepareOf pick
   answer-5 e f g h = rw (e, eq-eqb (length values) (rows * columns) f, g, lt-ltb (firstOutside values) (length values) h)
 
-  pub answer-none : inLimits rows columns ≡ true → length values ≡ rows * columns → exactRoom (rows * columns) columns orders cuts counts ≡ true
+  pub answer-none : gridHolds rows columns ≡ true → length values ≡ rows * columns → exactRoom (rows * columns) columns orders cuts counts ≡ true
       → length values ≤ firstOutside values → Done ≡ answer
-  unfolding answerOf pick
+  unfolding prepareOf pick
   answer-none e f g h = rw (e, eq-eqb (length values) (rows * columns) f, g, le-ltb (firstOutside values) (length values) h)
 
   -- a call that does not turn back
@@ -191,14 +158,14 @@ module _ (rows columns : ℕ) (values : List Float) (orders cuts counts : ℕ) w
   said false e = absurd (let z : _≡_ {A = ℕ} 0 1 = cc in omega arith)
 
   pub accepted : Done ≡ answer → Accepted
-  unfolding answerOf
+  unfolding prepareOf
   accepted e =
-      let one = refused (not (inLimits rows columns)) 1 0 _ (sym e) in
+      let one = refused (not (gridHolds rows columns)) 1 0 _ (sym e) in
       let two = refused (not (eqb (length values) (rows * columns))) 2 0 _ (one .1) in
       let three = refused (not (exactRoom (rows * columns) columns orders cuts counts)) 3 0 _ (two .1) in
       let five = refused (ltb (firstOutside values) (length values)) 5 (firstOutside values) Done (three .1) in
       record {
-        sized = limits rows columns (said (inLimits rows columns) (one .0));
+        sized = limits rows columns (said (gridHolds rows columns) (one .0));
         values-exact = eqb-true (length values) (rows * columns) (said (eqb (length values) (rows * columns)) (two .0));
         roomy = room (rows * columns) columns orders cuts counts (said (exactRoom (rows * columns) columns orders cuts counts) (three .0));
         all-in = all-within values (ltb-false (firstOutside values) (length values) (five .0));
@@ -214,7 +181,7 @@ untouched r number place e wanted old = ap (λ (a : Prepared). leaves a wanted o
 
 -- what is accepted can be prepared
 pub preparable : (rows columns : ℕ) (values : List Float) (order cuts counts : List ℕ)
-    → Done ≡ answerOf rows columns values (length order) (length cuts) (length counts)
+    → Done ≡ prepareOf rows columns values (length order) (length cuts) (length counts)
     → ((i : ℕ) → T (fits binary64 (getD values i nan))) → Columns rows columns values order cuts counts
 preparable rows columns values order cuts counts e f =
     let a = accepted rows columns values (length order) (length cuts) (length counts) e in

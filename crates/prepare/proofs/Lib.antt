@@ -5,3 +5,5 @@ pub mod OneOrder
 pub mod Places
 pub mod Soundness
 pub mod Acceptance
+pub mod Cutting
+pub mod Columns

@@ -13,29 +13,29 @@ use lib.Ieee.{Float, nan}
 use Rattle.basics.specs.Lists.{tally, those, table}
 use Rattle.basics.proofs.Choice.{reach}
 use Rattle.basics.proofs.Lists.{all-at, getD-table, length-table}
-use Rattle.order.specs.Order.{key, comparable}
-use Rattle.order.proofs.Order.{finite-comparable}
+use Rattle.threshold.specs.Order.{key, comparable}
+use Rattle.threshold.proofs.Keys.{finite-comparable}
 use Rattle.threshold.specs.Laws.{Measured}
 use Rattle.threshold.proofs.Law.{within-finite}
 use Rattle.sheet.specs.Sheet.{Sheet, valueOf, rowAt, valueAt, placeOf}
 use Rattle.sheet.specs.Sheet as sheet
-use Rattle.sheet.specs.Sound.{Cuts, Column}
+use Rattle.sheet.specs.Sound.{Cuts, SoundColumn}
 use Rattle.row_sort.specs.Sorting.{rowsFrom}
 use Rattle.prepare.specs.declared.Prepared.{Prepared}
-use Rattle.column_lists.specs.Lists.{orderOf, isCut, cutsAlong, placesOf, countOf, padded, cutsOf}
-use Rattle.prepare.specs.Prepared.{columnOf, orderList, cutList, countList, leaves}
-use Rattle.row_sort.specs.Steps.{keyIn, Upto, Ascending, Comparable}
+use Rattle.prepare.specs.Lists.{rowsInOrder, rowIsCut, cutsAlong, cutPlaces, cutCount, padded, cutSlots}
+use Rattle.prepare.specs.Prepared.{columnValues, orderList, cutList, countList, leaves}
+use Rattle.row_sort.specs.Steps.{keyIn, Upto, RowsAscend, Comparable}
 use Rattle.prepare.specs.Laws.{preparedSheet, Taken, SoundColumns, SoundSheet, Determined}
 use Rattle.row_sort.proofs.Sorting.{ascending-sorted}
-use Rattle.column_lists.proofs.Columns.{order-keys, order-rows, order-length}
-use Rattle.column_lists.proofs.Cutting.{no-cut}
+use Rattle.prepare.proofs.Columns.{order-keys, order-rows, order-length}
+use Rattle.prepare.proofs.Cutting.{no-cut}
 use Rattle.prepare.proofs.Joining.{cuts-length, getD-joined}
 use Rattle.prepare.proofs.Answering.{Accepted, accepted}
 use Rattle.prepare.proofs.OneOrder.{each-once-of}
 use Rattle.prepare.proofs.Places.{place-passes, place-below, places-rise, place-found, places-fewer}
 
 -- along an ascending list
-ascending-index : (k : ℕ → ℕ) (xs : List ℕ) (i j : ℕ) → Ascending k xs → i < j → j < length xs → Upto k (getD xs i 0) (getD xs j 0)
+ascending-index : (k : ℕ → ℕ) (xs : List ℕ) (i j : ℕ) → RowsAscend k xs → i < j → j < length xs → Upto k (getD xs i 0) (getD xs j 0)
 ascending-index k [] i j h l g = absurd (omega arith)
 ascending-index k (x ∷ xs) i zero h l g = absurd (omega arith)
 ascending-index k (x ∷ xs) zero (suc j) h l g = all-at (Upto k x) xs j (h .0) (omega arith)
@@ -50,10 +50,10 @@ module _ (rows columns labels : ℕ) (values : List Float) (codes : List ℕ) (K
 
   module _ (c : ℕ) (h : c < columns) where
     abbrev column : List Float
-    column = columnOf rows values c
+    column = columnValues rows values c
 
     abbrev order : List ℕ
-    order = orderOf rows column
+    order = rowsInOrder rows column
 
     end : c * rows + rows ≤ length values
     end =
@@ -61,13 +61,13 @@ module _ (rows columns labels : ℕ) (values : List Float) (codes : List ℕ) (K
         omega (arith, taken .values-exact, suc-mul c rows, mul-comm columns rows)
 
     column-length : length column ≡ rows
-    unfolding columnOf
+    unfolding columnValues
     column-length = length-take-le rows (drop (c * rows) values) (omega (arith, end, length-drop (c * rows) values))
 
     -- ---- values
 
     value-of : (r : ℕ) → r < rows → valueOf s c r ≡ getD column r nan
-    unfolding valueOf columnOf
+    unfolding valueOf columnValues
     value-of r g = sym (getD-take rows (drop (c * rows) values) r nan g ∙ getD-drop (c * rows) values r nan)
 
     measured : (r : ℕ) → r < rows → Measured (valueOf s c r)
@@ -84,7 +84,7 @@ module _ (rows columns labels : ℕ) (values : List Float) (codes : List ℕ) (K
 
     row-at : (i : ℕ) → i < rows → rowAt s c i ≡ getD order i 0
     unfolding rowAt orderList
-    row-at i g = getD-joined (λ d. orderOf rows (columnOf rows values d)) rows (λ d. order-length (columnOf rows values d) rows) columns c i h g
+    row-at i g = getD-joined (λ d. rowsInOrder rows (columnValues rows values d)) rows (λ d. order-length (columnValues rows values d) rows) columns c i h g
 
     row-in : (i : ℕ) → i < rows → getD order i 0 < rows
     row-in i g = all-at (λ r. r < rows) order i (order-rows column rows) (omega (arith, order-length column rows))
@@ -103,7 +103,7 @@ module _ (rows columns labels : ℕ) (values : List Float) (codes : List ℕ) (K
         ext-getD 0 (table (rowAt s c) rows) order (l ∙ sym (order-length column rows))
         (λ i g. getD-table (rowAt s c) rows i 0 (omega (arith, l)) ∙ row-at i (omega (arith, l)))
 
-    ascending : Ascending (keyIn column) order
+    ascending : RowsAscend (keyIn column) order
     ascending = rw (order-keys column all rows (omega (arith, column-length))) (ascending-sorted (keyIn column) (rowsFrom 0 rows))
 
     key-at : (i : ℕ) → i < rows → key (valueAt s c i) ≡ keyIn column (getD order i 0)
@@ -119,35 +119,35 @@ module _ (rows columns labels : ℕ) (values : List Float) (codes : List ℕ) (K
     -- ---- the cuts
 
     abbrev places : List ℕ
-    places = placesOf rows column
+    places = cutPlaces rows column
 
     count-is : sheet.countOf s c ≡ length places
-    unfolding sheet.countOf countList countOf
+    unfolding sheet.countOf countList cutCount
     count-is =
         ap (λ (n : ℕ). getD (countList rows columns values) n 0) (once c)
-        ∙ getD-joined (λ d. countOf rows (columnOf rows values d) ∷ []) 1 (λ d. refl) columns c 0 h (omega arith)
+        ∙ getD-joined (λ d. cutCount rows (columnValues rows values d) ∷ []) 1 (λ d. refl) columns c 0 h (omega arith)
       where
         once : (c : ℕ) → c ≡ c * 1 + 0
         once c = omega arith
 
     abbrev p : ℕ → Bool
-    p = isCut column order
+    p = rowIsCut column order
 
     places-are : places ≡ those p (rowsFrom 0 rows)
-    unfolding placesOf cutsAlong
+    unfolding cutPlaces cutsAlong
     places-are = ap (λ (n : ℕ). those p (rowsFrom 0 n)) (order-length column rows)
 
     few : length places < rows
     few = rw places-are (places-fewer p rows (taken .sized .rows-some) (no-cut column order))
 
     place-is : (k : ℕ) → k < length places → placeOf s c k ≡ getD places k 0
-    unfolding placeOf cutList cutsOf padded
+    unfolding placeOf cutList cutSlots padded
     place-is k g =
-        getD-joined (λ d. cutsOf rows (columnOf rows values d)) rows (λ d. cuts-length rows (columnOf rows values d)) columns c k h (omega (arith, few))
+        getD-joined (λ d. cutSlots rows (columnValues rows values d)) rows (λ d. cuts-length rows (columnValues rows values d)) columns c k h (omega (arith, few))
         ∙ List·getD-append places (replicate (rows - length places) 0) 0 k g
 
     cut-same : (i : ℕ) → i < rows → sheet.isCut s c i ≡ p i
-    unfolding sheet.isCut isCut
+    unfolding sheet.isCut rowIsCut
     cut-same i g = ap (λ (b : Bool). leb 1 i && b) (rw (value-at (i - 1) (omega arith), value-at i g))
 
     here : (k : ℕ) → k < sheet.countOf s c → k < length (those p (rowsFrom 0 rows))
@@ -181,7 +181,7 @@ module _ (rows columns labels : ℕ) (values : List Float) (codes : List ℕ) (K
             → (k : ℕ) × (k < sheet.countOf s c) × (placeOf s c k ≡ i)
         found i f = (f .0, subst (λ (n : ℕ). f .0 < n) (sym (count-is ∙ ap length places-are)) (f .1), place (f .0) (f .1) ∙ f .2)
 
-    column-sound : Column s c
+    column-sound : SoundColumn s c
     column-sound =
         record {
           measured = measured;

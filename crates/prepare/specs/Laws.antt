@@ -14,11 +14,11 @@ use Rattle.sheet.specs.Check.{checkOf}
 use Rattle.sheet.specs.declared.Terms.{Terms}
 use Rattle.sheet.specs.declared.Checked.the-variants.{Accepted}
 use Rattle.sheet.specs.Sheet.{Sheet}
-use Rattle.sheet.specs.Sound.{Column, Sound}
+use Rattle.sheet.specs.Sound.{SoundColumn, Sound}
 use Rattle.prepare.specs.declared.Prepared.{Prepared}
 use Rattle.prepare.specs.declared.Prepared.the-variants.{Done}
-use Rattle.column_lists.specs.Lists.{precedes, orderOf}
-use Rattle.prepare.specs.Prepared.{orderList, cutList, countList, answerOf, PreparedOf}
+use Rattle.prepare.specs.Lists.{precedes, rowsInOrder}
+use Rattle.prepare.specs.Prepared.{orderList, cutList, countList, prepareOf, PreparedOf}
 
 -- ---- the order
 
@@ -33,9 +33,9 @@ EachOnce rows order = (p : ℕ → Bool) → tally p order ≡ tally p (table (�
 
 -- the preparer's order of a column is the only one of its rows in which each precedes all that follow it
 pub record OnlyOrder (rows : ℕ) (column : List Float) : Type 0 where
-  pub in-order : InOrder column (orderOf rows column)
-  pub each-once : EachOnce rows (orderOf rows column)
-  pub only : (order : List ℕ) → InOrder column order → EachOnce rows order → order ≡ orderOf rows column
+  pub in-order : InOrder column (rowsInOrder rows column)
+  pub each-once : EachOnce rows (rowsInOrder rows column)
+  pub only : (order : List ℕ) → InOrder column order → EachOnce rows order → order ≡ rowsInOrder rows column
 
 abbrev pub OneOrder : Type 0
 OneOrder = (rows : ℕ) (column : List Float) → length column ≡ rows → ((r : ℕ) → r < rows → Measured (getD column r nan)) → OnlyOrder rows column
@@ -59,13 +59,13 @@ preparedSheet rows columns labels values codes =
 -- a values list of doubles that the preparer does not turn back
 pub record Taken (rows columns : ℕ) (values : List Float) : Type 0 where
   pub doubles : (i : ℕ) → T (fits binary64 (getD values i nan))
-  pub done : Done ≡ answerOf rows columns values (rows * columns) (rows * columns) columns
+  pub done : Done ≡ prepareOf rows columns values (rows * columns) (rows * columns) columns
 
 -- its columns are as the input check accepts them ..
 abbrev pub SoundColumns : Type 0
 SoundColumns =
     (rows columns labels : ℕ) (values : List Float) (codes : List ℕ) → Taken rows columns values
-    → (c : ℕ) → c < columns → Column (preparedSheet rows columns labels values codes) c
+    → (c : ℕ) → c < columns → SoundColumn (preparedSheet rows columns labels values codes) c
 
 -- .. and with label codes below their number it is sound as a whole
 abbrev pub SoundSheet : Type 0

@@ -5,42 +5,37 @@ use mathlib.Core.Bool.{Bool, not, _&&_}
 use mathlib.Core.List.{List, [], _∷_, _++_}
 use mathlib.Core.Option.{Option, none, some}
 use lib.ListN.{length, take, drop}
-use lib.Dec.{leb, ltb, eqb}
+use lib.Dec.{ltb, eqb}
 use lib.Ieee.{Float}
 use Rattle.basics.specs.Choice.{pick}
 use Rattle.basics.specs.Walk.{walk}
-use Rattle.sheet.specs.Limits.{mostRows, mostColumns}
 use Rattle.sheet.specs.Reasons.{sizeOutside, lengthWrong, scratchShort, valueOutside}
-use Rattle.sheet.specs.Check.{badValue}
-use Rattle.column_lists.specs.Lists.{orderOf, countOf, cutsOf}
+use Rattle.sheet.specs.Check.{gridHolds, badValue}
+use Rattle.prepare.specs.Lists.{rowsInOrder, cutCount, cutSlots}
 use Rattle.prepare.specs.declared.Prepared.{Prepared}
 use Rattle.prepare.specs.declared.Prepared.the-variants.{Done, Refused}
 
 -- ---- all columns, one after the other
 
 -- "Value of row r in column c lies at c·rows+r.": column c's values, row by row
-unfoldable pub columnOf : ℕ → List Float → ℕ → List Float
-columnOf rows values c = take rows (drop (c * rows) values)
+unfoldable pub columnValues : ℕ → List Float → ℕ → List Float
+columnValues rows values c = take rows (drop (c * rows) values)
 
-unfoldable pub joined : (ℕ → List ℕ) → ℕ → List ℕ
-joined f zero = []
-joined f (suc n) = joined f n ++ f n
+unfoldable pub columnsJoined : (ℕ → List ℕ) → ℕ → List ℕ
+columnsJoined f zero = []
+columnsJoined f (suc n) = columnsJoined f n ++ f n
 
 -- "Values, order and cuts have rows×columns entries exactly, counts have columns"
 unfoldable pub orderList : ℕ → ℕ → List Float → List ℕ
-orderList rows columns values = joined (λ c. orderOf rows (columnOf rows values c)) columns
+orderList rows columns values = columnsJoined (λ c. rowsInOrder rows (columnValues rows values c)) columns
 
 unfoldable pub cutList : ℕ → ℕ → List Float → List ℕ
-cutList rows columns values = joined (λ c. cutsOf rows (columnOf rows values c)) columns
+cutList rows columns values = columnsJoined (λ c. cutSlots rows (columnValues rows values c)) columns
 
 unfoldable pub countList : ℕ → ℕ → List Float → List ℕ
-countList rows columns values = joined (λ c. countOf rows (columnOf rows values c) ∷ []) columns
+countList rows columns values = columnsJoined (λ c. cutCount rows (columnValues rows values c) ∷ []) columns
 
 -- ---- the answer
-
--- reason 1, of rows and columns only: "Rows 1 to 4,096; columns 1 to 16"
-unfoldable pub inLimits : ℕ → ℕ → Bool
-inLimits rows columns = leb 1 rows && leb rows mostRows && leb 1 columns && leb columns mostColumns
 
 -- reason 3: "order and cuts have rows×columns entries exactly, counts have columns"
 unfoldable pub exactRoom : ℕ → ℕ → ℕ → ℕ → ℕ → Bool
@@ -51,9 +46,9 @@ unfoldable pub firstOutside : List Float → ℕ
 firstOutside values = walk (badValue values) (length values) 0
 
 -- "The lowest number wins": the answer for a values list and lists of these lengths
-unfoldable pub answerOf : ℕ → ℕ → List Float → ℕ → ℕ → ℕ → Prepared
-answerOf rows columns values orders cuts counts =
-    pick (not (inLimits rows columns)) (Refused sizeOutside 0)
+unfoldable pub prepareOf : ℕ → ℕ → List Float → ℕ → ℕ → ℕ → Prepared
+prepareOf rows columns values orders cuts counts =
+    pick (not (gridHolds rows columns)) (Refused sizeOutside 0)
     (pick (not (eqb (length values) (rows * columns))) (Refused lengthWrong 0)
     (pick (not (exactRoom (rows * columns) columns orders cuts counts)) (Refused scratchShort 0)
     (pick (ltb (firstOutside values) (length values)) (Refused valueOutside (firstOutside values))
@@ -72,7 +67,7 @@ leaves (Refused number place) written before = before
 -- all that a call does: its answer, and every word of the three lent slices as it ends
 pub record PreparedOf (rows columns : ℕ) (values : List Float) (order cuts counts : List ℕ) (answer : Prepared)
     (order′ cuts′ counts′ : List ℕ) : Type 0 where
-  pub answers : answer ≡ answerOf rows columns values (length order) (length cuts) (length counts)
+  pub answers : answer ≡ prepareOf rows columns values (length order) (length cuts) (length counts)
   pub orders : order′ ≡ leaves answer (orderList rows columns values) order
   pub places : cuts′ ≡ leaves answer (cutList rows columns values) cuts
   pub numbers : counts′ ≡ leaves answer (countList rows columns values) counts

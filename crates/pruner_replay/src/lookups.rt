@@ -20,7 +20,7 @@ pub fn every(cuts: &[u16]) -> Tally {
         let last = code / VALUES % CUTS;
         let first = code / VALUES / CUTS;
         if code < FEASIBLE {
-            let run = feasible_cuts::support_feasible_splits(cuts, value, last);
+            let run = cuts::feasible_cuts::support_feasible_splits(cuts, value, last);
             all = tally::told(all, run.first | (run.end << 8));
         }
         if first <= count && last < count {

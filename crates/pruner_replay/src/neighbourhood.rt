@@ -31,7 +31,7 @@ fn parts(cuts: &[u16], bound: Bound, zeros: Zeros, term: u32) -> usize {
     let excess = term / CUTS / GAPS % DIFFERENCES;
     let small = term < SMALL_TERMS;
     let first = bound.first;
-    let found = neighbourhood_pruning::neighbourhood_pruning(
+    let found = interval_pruner::neighbourhood_pruning::neighbourhood_pruning(
         cuts,
         zeros,
         gap,

@@ -39,9 +39,17 @@ fn pruned(cuts: &[u16], table: &[u32], zeros: Zeros, bound: Bound, term: u32) ->
     let gap = term % LEVELS;
     let best = term / LEVELS % LEVELS;
     let small = term < SMALL_TERMS;
-    let after = interval_shrinking::interval_shrinking(cuts, table, zeros, bound, gap, best, small);
+    let after = interval_pruner::interval_shrinking::interval_shrinking(
+        cuts,
+        table,
+        zeros,
+        bound,
+        gap,
+        best,
+        small,
+    );
     let shrunk = number_of_shrunk(after);
-    if subinterval_pruning::subinterval_pruning(table, bound, gap, best, small) {
+    if interval_pruner::subinterval_pruning::subinterval_pruning(table, bound, gap, best, small) {
         return shrunk | HOPELESS;
     }
     shrunk

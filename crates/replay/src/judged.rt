@@ -2,23 +2,21 @@
 ghost use Prim.Native.Nat.{_≤_};
 use crate::count;
 use crate::count::Count;
+use basics::smaller;
 use judge::Verdict;
-use judge_rows::Judgement;
-use judge_rows::Wrong;
-use numbers::smaller;
+use judge::judge_rows::Judgement;
+use judge::judge_rows::Wrong;
 use sheet::MOST_COLUMNS;
 use sheet::Size;
 use sheet::Terms;
 use sheet_bytes::Head;
+use sheet_bytes::MOST_WORDS;
 use sheet_bytes::Read;
-use sheet_room::MOST_CELLS;
-use sheet_room::MOST_READ;
+use sheet_bytes::sheet_room::MOST_CELLS;
+use sheet_bytes::sheet_room::MOST_READ;
 use tree::Answer;
 use tree::Side;
 use tree::Tree;
-
-// Scratch for the largest sheet: eight words for each row.
-const WORDS: usize = 16384;
 
 // How many cells a sheet has; a sheet that was read is within the limits.
 fn cells_of(rows: usize, columns: usize, most: usize) -> usize
@@ -36,20 +34,18 @@ fn cells_of(rows: usize, columns: usize, most: usize) -> usize
 
 fn same_mistakes(wrong: Wrong, side: Side) -> bool {
     match side {
-        Side::Leaf { label: _, error } => match wrong {
-            Wrong::AtLeaf(n) => n == error,
+        Side::Leaf(leaf) => match wrong {
+            Wrong::AtLeaf(reached) => reached.wrong == leaf.error,
             Wrong::AtSplit(_, _) => false,
         },
         Side::Split {
-            column: _,
-            threshold: _,
-            left: _,
-            right: _,
-            lost,
-            missed,
+            question: _,
+            left,
+            right,
         } => match wrong {
             Wrong::AtLeaf(_) => false,
-            Wrong::AtSplit(n, m) => n == lost && m == missed,
+            Wrong::AtSplit(first, second) => first.wrong == left.error
+                && second.wrong == right.error,
         },
     }
 }
@@ -65,14 +61,14 @@ fn confirms(judgement: Judgement, tree: Tree, support: u32) -> bool {
     if judgement.support < support {
         return false;
     }
-    let lost = judgement.left;
+    let first = judgement.left;
     let left = tree.left;
-    if !same_mistakes(lost, left) {
+    if !same_mistakes(first, left) {
         return false;
     }
-    let missed = judgement.right;
+    let second = judgement.right;
     let right = tree.right;
-    same_mistakes(missed, right)
+    same_mistakes(second, right)
 }
 
 fn search(
@@ -94,7 +90,7 @@ fn find(size: Size, terms: Terms, values: &[f64], codes: &[u8]) -> Answer {
     let mut order = [0u16; MOST_CELLS];
     let mut cuts = [0u16; MOST_CELLS];
     let mut counts = [0u16; MOST_COLUMNS];
-    let mut scratch = [0u32; WORDS];
+    let mut scratch = [0u32; MOST_WORDS];
     let cells = smaller(values.len(), MOST_CELLS);
     let columns = smaller(size.columns, MOST_COLUMNS);
     search(

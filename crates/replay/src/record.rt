@@ -1,6 +1,6 @@
 // A record's numbers and bytes; oracle/recorded/README.md has its layout.
 ghost use Rattle.io.specs.Counts.{Counts};
-use numbers::wide_byte;
+use basics::wide_byte;
 
 // The lower byte comes first.
 pub fn number(low: u8, high: u8) -> usize {

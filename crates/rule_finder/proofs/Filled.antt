@@ -13,12 +13,12 @@ use Rattle.prepare.specs.Laws.{preparedSheet}
 use Rattle.sheet_bytes.specs.declared.Head.{Head}
 use Rattle.sheet_bytes.specs.declared.Read.{Read}
 use Rattle.sheet_bytes.specs.declared.Read.the-variants.{Sheet}
-use Rattle.sheet_room.specs.Room.{mostCells, mostRead}
-use Rattle.sheet_bytes.specs.Read.{Small, cellsOf, valuesOf, codesOf, readOf, answerOf, valuesIn, codesIn}
+use Rattle.sheet_bytes.specs.Room.{mostCells, mostRead}
+use Rattle.sheet_bytes.specs.Read.{SmallHead, headCells, valuesOf, codesOf, readOf, readAnswer, valuesIn, codesIn}
 use Rattle.sheet_bytes.specs.Laws as read
 use Rattle.sheet_bytes.proofs.Stages as stages
-use Rattle.head_numbers.specs.Numbers.{termsOf}
-use Rattle.sheet_search.specs.Lent.{wordsLent, Prepares}
+use Rattle.sheet_bytes.specs.Numbers.{termsRead}
+use Rattle.rule_finder.specs.Lent.{wordsLent, Prepares}
 use Rattle.rule_finder.specs.Run.{runOf}
 use Rattle.rule_finder.proofs.Reading.{values-length, codes-length, prepares}
 use Rattle.rule_finder.proofs.Laws.{searched-of}
@@ -31,29 +31,29 @@ long : {A : Type 0} (wanted rest list : List A) (n : ℕ) → list ≡ wanted ++
 long wanted rest list n e l = omega (arith, ap length e, length-append wanted rest)
 
 -- there is room, so the answer is that of the bytes
-pub answer-read : (bytes : List ℕ) → answerOf bytes mostCells mostRead ≡ readOf bytes
-unfolding answerOf pick
+pub answer-read : (bytes : List ℕ) → readAnswer bytes mostCells mostRead ≡ readOf bytes
+unfolding readAnswer pick
 answer-read bytes = refl
 
 module _ (bytes : List ℕ) (h : Head) (e : readOf bytes ≡ Sheet h) where
   good : read.Accepted bytes h
   good = stages.accepted bytes h e
 
-  pub small : Small h
+  pub small : SmallHead h
   small = stages.small-accepted bytes h good
 
   module _ (r : Read) (before after : List Float) (k : r ≡ Sheet h) (v : after ≡ valuesIn r bytes before) where
-    values-in : after ≡ valuesOf bytes h ++ drop (cellsOf h) before
+    values-in : after ≡ valuesOf bytes h ++ drop (headCells h) before
     unfolding valuesIn
     values-in = v ∙ ap (λ (x : Read). valuesIn x bytes before) k
 
-    pub values-long : cellsOf h ≤ length after
-    values-long = long (valuesOf bytes h) (drop (cellsOf h) before) after (cellsOf h) values-in (values-length bytes h good)
+    pub values-long : headCells h ≤ length after
+    values-long = long (valuesOf bytes h) (drop (headCells h) before) after (headCells h) values-in (values-length bytes h good)
 
-    pub values-taken : take (cellsOf h) after ≡ valuesOf bytes h
-    values-taken = in-front (valuesOf bytes h) (drop (cellsOf h) before) after (cellsOf h) values-in (values-length bytes h good)
+    pub values-taken : take (headCells h) after ≡ valuesOf bytes h
+    values-taken = in-front (valuesOf bytes h) (drop (headCells h) before) after (headCells h) values-in (values-length bytes h good)
 
-    pub values-prepare : Prepares h (take (cellsOf h) after)
+    pub values-prepare : Prepares h (take (headCells h) after)
     values-prepare = subst (Prepares h) (sym values-taken) (prepares bytes h good)
 
   module _ (r : Read) (before after : List ℕ) (k : r ≡ Sheet h) (v : after ≡ codesIn r bytes before) where
@@ -69,7 +69,7 @@ module _ (bytes : List ℕ) (h : Head) (e : readOf bytes ≡ Sheet h) where
 
   -- the search of these is what the finder answers
   pub search-read : (values : List Float) (codes : List ℕ) → values ≡ valuesOf bytes h → codes ≡ codesOf bytes h
-      → searchOf (preparedSheet (h .rows) (h .columns) (h .labels) values codes) (termsOf h) wordsLent ≡ runOf bytes
+      → searchOf (preparedSheet (h .rows) (h .columns) (h .labels) values codes) (termsRead h) wordsLent ≡ runOf bytes
   search-read values codes v c =
-      ap₂ (λ (x : List Float) (y : List ℕ). searchOf (preparedSheet (h .rows) (h .columns) (h .labels) x y) (termsOf h) wordsLent) v c
+      ap₂ (λ (x : List Float) (y : List ℕ). searchOf (preparedSheet (h .rows) (h .columns) (h .labels) x y) (termsRead h) wordsLent) v c
       ∙ sym (searched-of bytes h e)

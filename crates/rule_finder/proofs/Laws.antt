@@ -17,7 +17,7 @@ use Rattle.sheet.specs.Check.{checkOf}
 use Rattle.tree.specs.declared.Answer.{Answer}
 use Rattle.tree.specs.declared.Answer.the-variants.{TurnedBack}
 use Rattle.tree.specs.Answer.{turnedBack}
-use Rattle.depth2.specs.Search.{answerOf, answerAfter, searchOf, searched, Progress}
+use Rattle.depth2.specs.Search.{answerHolding, answerAfter, searchOf, searched, Progress}
 use Rattle.listing.specs.Listing.{listingOf, longest, writtenOf, outOf}
 use Rattle.certificate.proofs.Sentences.{certified}
 use Rattle.sheet_bytes.specs.declared.Head.{Head}
@@ -25,10 +25,10 @@ use Rattle.sheet_bytes.specs.declared.Read.{Read}
 use Rattle.sheet_bytes.specs.declared.Read.the-variants as read
 use Rattle.sheet_bytes.specs.Read.{readOf}
 use Rattle.sheet_bytes.proofs.Stages as stages
-use Rattle.head_numbers.specs.Numbers.{termsOf}
-use Rattle.sheet_search.specs.Lent.{wordsLent}
+use Rattle.sheet_bytes.specs.Numbers.{termsRead}
+use Rattle.rule_finder.specs.Lent.{wordsLent}
 use Rattle.rule_finder.specs.Run.{sheetRead, answerTo, runOf}
-use Rattle.rule_finder.specs.Laws.{NeverTurnedBack, RefusedExactly, EverySigned, WrittenWithin, TextWritten, OutcomesCoincide}
+use Rattle.rule_finder.specs.Laws.{NeverTurnedBack, RefusedExactly, EverySigned, WrittenWithin, TextWritten, RunsCoincide}
 use Rattle.rule_finder.proofs.Reading.{doubles, accepted}
 
 -- ---- the answer, by what the reader says
@@ -37,14 +37,14 @@ pub refused : (bytes : List ℕ) (number place : ℕ) → readOf bytes ≡ read.
 unfolding runOf answerTo
 refused bytes number place e = ap (answerTo bytes) e
 
-pub searched-of : (bytes : List ℕ) (h : Head) → readOf bytes ≡ read.Sheet h → runOf bytes ≡ searchOf (sheetRead bytes h) (termsOf h) wordsLent
+pub searched-of : (bytes : List ℕ) (h : Head) → readOf bytes ≡ read.Sheet h → runOf bytes ≡ searchOf (sheetRead bytes h) (termsRead h) wordsLent
 unfolding runOf answerTo
 searched-of bytes h e = ap (answerTo bytes) e
 
 -- ---- a search that the check accepts turns nothing back
 
-no-reason : (s : Sheet) (t : Terms) (p : Progress) (best : Option (ℕ × ℕ)) → turnedBack (answerOf s t p best) ≡ none
-unfolding answerOf
+no-reason : (s : Sheet) (t : Terms) (p : Progress) (best : Option (ℕ × ℕ)) → turnedBack (answerHolding s t p best) ≡ none
+unfolding answerHolding
 no-reason s t p none = refl
 no-reason s t p (some cut) = refl
 
@@ -54,7 +54,7 @@ not-back s t words e = ap (λ x. turnedBack (answerAfter s t x)) e ∙ no-reason
 
 pub never-turned-back : NeverTurnedBack
 never-turned-back bytes h e =
-    ap turnedBack (searched-of bytes h e) ∙ not-back (sheetRead bytes h) (termsOf h) wordsLent (accepted bytes h (stages.accepted bytes h e))
+    ap turnedBack (searched-of bytes h e) ∙ not-back (sheetRead bytes h) (termsRead h) wordsLent (accepted bytes h (stages.accepted bytes h e))
 
 -- ---- what is refused is what the reader refuses
 
@@ -76,7 +76,7 @@ every-signed bytes h e =
     let a = stages.accepted bytes h e in
     record {
       accepted = accepted bytes h a;
-      certified = certified (sheetRead bytes h) (termsOf h) wordsLent (doubles bytes h a) (runOf bytes) (searched-of bytes h e);
+      certified = certified (sheetRead bytes h) (termsRead h) wordsLent (doubles bytes h a) (runOf bytes) (searched-of bytes h e);
     }
 
 -- ---- the outcome
@@ -106,5 +106,5 @@ said answer out room =
 pub text-written : TextWritten
 text-written bytes out count after o room = ap₂ take (o .count-is) (o .text-is) ∙ said (runOf bytes) out room
 
-pub outcomes-coincide : OutcomesCoincide
+pub outcomes-coincide : RunsCoincide
 outcomes-coincide bytes out m n after other a b = (a .count-is ∙ sym (b .count-is), a .text-is ∙ sym (b .text-is))

@@ -4,3 +4,5 @@ pub mod Laws
 pub mod Filled
 pub mod Unread
 pub mod Table
+pub mod Room
+pub mod Calling

@@ -6,29 +6,26 @@ use native.Mathlib.Nat.{mul-comm}
 use mathlib.Core.Bool.{Bool, true, not}
 use mathlib.Core.List.{List}
 use lib.ListN.{length, getD}
-use lib.Dec.{T, ltb, nleb→lt, nltb→le}
+use lib.Dec.{T, nleb→lt}
 use lib.Ieee.{Float, nan, binary64, fits}
 use lib.Ieee.Bits.{ofBits-fits}
-use borrow.Author.Tests.{le-leb, eq-eqb}
+use borrow.Author.Tests.{eq-eqb}
 use Rattle.basics.specs.Lists.{table}
-use Rattle.basics.proofs.Choice.{nor-left, nor-right}
 use Rattle.basics.proofs.Lists.{getD-table, length-table}
 use Rattle.threshold.specs.Threshold.{within}
-use Rattle.sheet.specs.Limits.{mostSupport, mostError}
-use Rattle.sheet.specs.Laws.{TermsLimited}
 use Rattle.sheet.specs.declared.Checked.the-variants.{Accepted}
-use Rattle.sheet.specs.Check.{checkOf}
+use Rattle.sheet.specs.Check.{gridHolds, checkOf}
 use Rattle.prepare.specs.declared.Prepared.the-variants.{Done}
-use Rattle.prepare.specs.Prepared.{answerOf, inLimits, exactRoom, firstOutside}
+use Rattle.prepare.specs.Prepared.{prepareOf, exactRoom, firstOutside}
 use Rattle.prepare.specs.Laws.{Taken}
-use Rattle.prepare.proofs.Answering.{by-columns, by-counts, stops-nowhere, answer-none}
+use Rattle.prepare.proofs.Answering.{by-counts, stops-nowhere, answer-none}
 use Rattle.prepare.proofs.Acceptance.{never-refused}
 use Rattle.sheet_bytes.specs.declared.Head.{Head}
-use Rattle.sheet_bytes.specs.Read.{cellsOf, bitsOf, valueOf, codeOf, valuesOf, codesOf, termsBad, codeBad}
+use Rattle.sheet_bytes.specs.Read.{headCells, bitsOf, valueRead, codeOf, valuesOf, codesOf, codeBad}
 use Rattle.sheet_bytes.specs.Laws as read
-use Rattle.sheet_bytes.proofs.Stages.{rows-inside, columns-inside, labels-inside, small-accepted, valued-accepted}
-use Rattle.head_numbers.specs.Numbers.{termsOf}
-use Rattle.sheet_search.specs.Lent.{wordsLent, Prepares}
+use Rattle.sheet_bytes.proofs.Stages.{grid-held, labels-inside, terms-limited, small-accepted, valued-accepted}
+use Rattle.sheet_bytes.specs.Numbers.{termsRead}
+use Rattle.rule_finder.specs.Lent.{wordsLent, Prepares}
 use Rattle.rule_finder.specs.Run.{sheetRead}
 
 -- a table of doubles has doubles throughout, and a NaN past its end
@@ -38,6 +35,9 @@ all-fit f zero h i = tt
 all-fit f (suc n) h zero = h 0
 all-fit f (suc n) h (suc i) = all-fit (λ k. f (suc k)) n (λ k. h (suc k)) i
 
+is-true : (b : Bool) → T b → b ≡ true
+is-true true t = refl
+
 twice-not : (b : Bool) → T b → T (not (not b))
 twice-not true t = tt
 
@@ -45,9 +45,9 @@ module _ (bytes : List ℕ) (h : Head) (a : read.Accepted bytes h) where
   abbrev values : List Float
   values = valuesOf bytes h
 
-  pub values-length : length values ≡ cellsOf h
+  pub values-length : length values ≡ headCells h
   unfolding valuesOf
-  values-length = length-table (valueOf bytes h) (cellsOf h)
+  values-length = length-table (valueRead bytes h) (headCells h)
 
   pub codes-length : length (codesOf bytes h) ≡ h .rows
   unfolding codesOf
@@ -55,18 +55,15 @@ module _ (bytes : List ℕ) (h : Head) (a : read.Accepted bytes h) where
 
   -- bits are a double's, whatever they are
   pub doubles : (i : ℕ) → T (fits binary64 (getD values i nan))
-  unfolding valuesOf valueOf
-  doubles i = all-fit (valueOf bytes h) (cellsOf h) (λ k. ofBits-fits binary64 (bitsOf bytes h k)) i
+  unfolding valuesOf valueRead
+  doubles i = all-fit (valueRead bytes h) (headCells h) (λ k. ofBits-fits binary64 (bitsOf bytes h k)) i
 
-  value-within : (i : ℕ) → i < cellsOf h → T (within (getD values i nan))
+  value-within : (i : ℕ) → i < headCells h → T (within (getD values i nan))
   unfolding valuesOf
-  value-within i l = subst (λ (x : Float). T (within x)) (sym (getD-table (valueOf bytes h) (cellsOf h) i nan l)) (valued-accepted bytes h a i l)
+  value-within i l = subst (λ (x : Float). T (within x)) (sym (getD-table (valueRead bytes h) (headCells h) i nan l)) (valued-accepted bytes h a i l)
 
-  in-limits : inLimits (h .rows) (h .columns) ≡ true
-  in-limits =
-      let rows = rows-inside h (a .size-good) in
-      let columns = columns-inside h (a .size-good) in
-      sym (by-columns (h .rows) (h .columns) (rows .0) (rows .1) (columns .0)) ∙ le-leb _ _ (columns .1)
+  in-limits : gridHolds (h .rows) (h .columns) ≡ true
+  in-limits = is-true (gridHolds (h .rows) (h .columns)) (grid-held h (a .size-good))
 
   abbrev cells : ℕ
   cells = h .rows * h .columns
@@ -83,7 +80,7 @@ module _ (bytes : List ℕ) (h : Head) (a : read.Accepted bytes h) where
       omega arith
 
   -- reasons 1, 2, 3 and 5 are passed: the reader asked for them, or the room is exact
-  done : Done ≡ answerOf (h .rows) (h .columns) values cells cells (h .columns)
+  done : Done ≡ prepareOf (h .rows) (h .columns) values cells cells (h .columns)
   done =
       answer-none (h .rows) (h .columns) values cells cells (h .columns) in-limits (values-length ∙ mul-comm (h .columns) (h .rows)) exact none-outside
 
@@ -95,19 +92,7 @@ module _ (bytes : List ℕ) (h : Head) (a : read.Accepted bytes h) where
       record {
         small = small-accepted bytes h a;
         all = values-length;
-        done = subst (λ (n : ℕ). Done ≡ answerOf (h .rows) (h .columns) values n n (h .columns)) (mul-comm (h .rows) (h .columns)) done;
-      }
-
-  terms-limited : TermsLimited (termsOf h)
-  unfolding termsBad
-  terms-limited =
-      let past-support = nor-right (ltb mostSupport (h .support)) _ (a .terms-good) in
-      let past-gap = nor-right (ltb mostError (h .gap)) _ past-support in
-      record {
-        support = nltb→le mostSupport (h .support) (nor-left (ltb mostSupport (h .support)) _ (a .terms-good));
-        gap = nltb→le mostError (h .gap) (nor-left (ltb mostError (h .gap)) _ past-support);
-        error = nltb→le mostError (h .error) (nor-left (ltb mostError (h .error)) (ltb mostError (h .bound)) past-gap);
-        bound = nltb→le mostError (h .bound) (nor-right (ltb mostError (h .error)) (ltb mostError (h .bound)) past-gap);
+        done = subst (λ (n : ℕ). Done ≡ prepareOf (h .rows) (h .columns) values n n (h .columns)) (mul-comm (h .rows) (h .columns)) done;
       }
 
   code-low : (r : ℕ) → r < h .rows → getD (codesOf bytes h) r 0 < h .labels
@@ -115,8 +100,8 @@ module _ (bytes : List ℕ) (h : Head) (a : read.Accepted bytes h) where
   code-low r l =
       subst (λ (n : ℕ). n < h .labels) (sym (getD-table (codeOf bytes h) (h .rows) r 0 l)) (nleb→lt (h .labels) (codeOf bytes h r) (a .codes-good r l))
 
-  pub accepted : checkOf (sheetRead bytes h) (termsOf h) wordsLent ≡ Accepted
+  pub accepted : checkOf (sheetRead bytes h) (termsRead h) wordsLent ≡ Accepted
   accepted =
       let labels = labels-inside h (a .size-good) in
-      never-refused (h .rows) (h .columns) (h .labels) values (codesOf bytes h) (termsOf h) wordsLent taken (labels .0) (labels .1) codes-length
-      code-low terms-limited (omega (arith, small-accepted bytes h a .rows-most))
+      never-refused (h .rows) (h .columns) (h .labels) values (codesOf bytes h) (termsRead h) wordsLent taken (labels .0) (labels .1) codes-length
+      code-low (terms-limited h (a .terms-good)) (omega (arith, small-accepted bytes h a .rows-most))

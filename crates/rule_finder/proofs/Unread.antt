@@ -19,8 +19,8 @@ use Rattle.sheet_bytes.specs.declared.Read.the-variants.{Refused, Sheet}
 use Rattle.sheet_bytes.specs.Bytes.{Mark, numberAt, marked, headMark, rowMark}
 use Rattle.sheet_bytes.specs.Reasons.{headWrong, sheetLarge, rowWrong, bytesLeft}
 use Rattle.sheet.specs.Reasons.{sizeOutside}
-use Rattle.sheet_room.specs.Room.{headSize, rowSize, largestSheet}
-use Rattle.sheet_bytes.specs.Read.{headOf, startOf, headBad, sizeBad, tooLarge, rowBad, further, firstBad, fromTerms, fromEnd, fromRows, fromLarge, fromSize, readOf, Small}
+use Rattle.sheet_bytes.specs.Room.{headSize, rowSize, largestSheet}
+use Rattle.sheet_bytes.specs.Read.{headOf, rowStart, headBad, sizeBad, tooLarge, rowBad, further, firstBad, fromTerms, fromEnd, fromRows, fromLarge, fromSize, readOf, SmallHead}
 use Rattle.sheet_bytes.proofs.Stages.{chosen, accepted, small-accepted, small-enough}
 use Rattle.rule_finder.specs.Run.{answerTo, runOf}
 use Rattle.rule_finder.specs.Laws.{NoneLonger, OneMoreSuffices}
@@ -43,18 +43,18 @@ walk-same f g (suc n) k e =
 spread : (rows columns : ℕ) → rows * (3 + 8 * columns) ≡ 3 * rows + 8 * (columns * rows)
 spread rows columns = omega arith
 
-largest : (h : Head) → Small h → startOf (h .columns) (h .rows) ≤ largestSheet
-unfolding startOf
+largest : (h : Head) → SmallHead h → rowStart (h .columns) (h .rows) ≤ largestSheet
+unfolding rowStart
 largest h s = omega (arith, spread (h .rows) (h .columns), s .rows-most, s .cells-most)
 
 pub none-longer : NoneLonger
 unfolding further
 none-longer bytes h e =
     let a = accepted bytes h e in
-    omega (arith, nltb→le (startOf (h .columns) (h .rows)) (length bytes) (a .no-more), largest h (small-accepted bytes h a))
+    omega (arith, nltb→le (rowStart (h .columns) (h .rows)) (length bytes) (a .no-more), largest h (small-accepted bytes h a))
 
-starts-later : (columns a b : ℕ) → a ≤ b → startOf columns a ≤ startOf columns b
-unfolding startOf
+starts-later : (columns a b : ℕ) → a ≤ b → rowStart columns a ≤ rowStart columns b
+unfolding rowStart
 starts-later columns a b l = omega (arith, mul-le-mul-right (rowSize columns) l)
 
 -- ---- the first n bytes of a longer list, past where a sheet may end
@@ -94,28 +94,28 @@ module _ (bytes : List ℕ) (n : ℕ) (enough : largestSheet < n) (long : n ≤ 
       ap₂ (λ (a b : Bool). a || not b) (le-ltb (length cut) headSize (omega (arith, cut-length)) ∙ sym (le-ltb (length bytes) headSize (omega arith)))
       (same-mark headMark 0 (omega arith))
 
-  module _ (h : Head) (s : Small h) where
+  module _ (h : Head) (s : SmallHead h) where
     same-row : (row : ℕ) → row < h .rows → rowBad cut h row ≡ rowBad bytes h row
     unfolding rowBad
     same-row row l =
         let ends = starts-later (h .columns) (suc row) (h .rows) (omega arith) in
         let fits = largest h s in
         ap₂ (λ (a b : Bool). a || not b)
-        (le-ltb (length cut) (startOf (h .columns) (suc row)) (omega (arith, cut-length)) ∙ sym (le-ltb (length bytes) (startOf (h .columns) (suc row)) (omega arith)))
-        (same-mark rowMark (startOf (h .columns) row) (before row ends fits))
+        (le-ltb (length cut) (rowStart (h .columns) (suc row)) (omega (arith, cut-length)) ∙ sym (le-ltb (length bytes) (rowStart (h .columns) (suc row)) (omega arith)))
+        (same-mark rowMark (rowStart (h .columns) row) (before row ends fits))
       where
-        before : (row : ℕ) → startOf (h .columns) (suc row) ≤ startOf (h .columns) (h .rows) → startOf (h .columns) (h .rows) ≤ largestSheet
-            → startOf (h .columns) row + 1 < n
-        before row ends fits = unfold startOf in omega (arith, enough)
+        before : (row : ℕ) → rowStart (h .columns) (suc row) ≤ rowStart (h .columns) (h .rows) → rowStart (h .columns) (h .rows) ≤ largestSheet
+            → rowStart (h .columns) row + 1 < n
+        before row ends fits = unfold rowStart in omega (arith, enough)
 
     same-end : fromEnd cut h ≡ fromEnd bytes h
     unfolding fromEnd further
     same-end =
         let fits = largest h s in
-        chosen (ltb (startOf (h .columns) (h .rows)) (length cut)) (Refused bytesLeft 0) (fromTerms cut h)
-        (lt-ltb (startOf (h .columns) (h .rows)) (length cut) (omega (arith, cut-length)))
-        ∙ sym (chosen (ltb (startOf (h .columns) (h .rows)) (length bytes)) (Refused bytesLeft 0) (fromTerms bytes h)
-        (lt-ltb (startOf (h .columns) (h .rows)) (length bytes) (omega arith)))
+        chosen (ltb (rowStart (h .columns) (h .rows)) (length cut)) (Refused bytesLeft 0) (fromTerms cut h)
+        (lt-ltb (rowStart (h .columns) (h .rows)) (length cut) (omega (arith, cut-length)))
+        ∙ sym (chosen (ltb (rowStart (h .columns) (h .rows)) (length bytes)) (Refused bytesLeft 0) (fromTerms bytes h)
+        (lt-ltb (rowStart (h .columns) (h .rows)) (length bytes) (omega arith)))
 
     same-rows : fromRows cut h ≡ fromRows bytes h
     unfolding fromRows firstBad

@@ -13,9 +13,9 @@ use Rattle.certificate.specs.Certificate.{Certified}
 use Rattle.sheet_bytes.specs.declared.Head.{Head}
 use Rattle.sheet_bytes.specs.declared.Read.the-variants.{Refused, Sheet}
 use Rattle.sheet_bytes.specs.Read.{readOf}
-use Rattle.sheet_room.specs.Room.{largestSheet}
-use Rattle.head_numbers.specs.Numbers.{termsOf}
-use Rattle.sheet_search.specs.Lent.{wordsLent}
+use Rattle.sheet_bytes.specs.Room.{largestSheet}
+use Rattle.sheet_bytes.specs.Numbers.{termsRead}
+use Rattle.rule_finder.specs.Lent.{wordsLent}
 use Rattle.rule_finder.specs.Run.{sheetRead, runOf}
 
 -- "Order: 20, 1, 21, 22, 23, 4, 5, 6.": these are the reader's, and a sheet that is read is never turned back
@@ -32,8 +32,8 @@ RefusedExactly = (bytes : List ℕ) (number place : ℕ) → RefusedIf bytes num
 
 -- the three sentences of the certificate, of the answer to a sheet that is read: the input check that they ask for accepts it
 pub record Signed (bytes : List ℕ) (h : Head) : Type 0 where
-  pub accepted : checkOf (sheetRead bytes h) (termsOf h) wordsLent ≡ Accepted
-  pub certified : Certified (sheetRead bytes h) (termsOf h) wordsLent (runOf bytes)
+  pub accepted : checkOf (sheetRead bytes h) (termsRead h) wordsLent ≡ Accepted
+  pub certified : Certified (sheetRead bytes h) (termsRead h) wordsLent (runOf bytes)
 
 abbrev pub EverySigned : Type 0
 EverySigned = (bytes : List ℕ) (h : Head) → readOf bytes ≡ Sheet h → Signed bytes h
@@ -47,20 +47,20 @@ abbrev pub OneMoreSuffices : Type 0
 OneMoreSuffices = (bytes : List ℕ) → runOf (take (largestSheet + 1) bytes) ≡ runOf bytes
 
 -- what the contract of `run` says of an outcome: how many bytes were written, and the memory afterwards
-pub record Outcome (bytes out : List ℕ) (count : ℕ) (after : List ℕ) : Type 0 where
+pub record RunOutcome (bytes out : List ℕ) (count : ℕ) (after : List ℕ) : Type 0 where
   pub count-is : count ≡ writtenOf (runOf bytes) out
   pub text-is : after ≡ outOf (runOf bytes) out
 
 -- what was written lies within the memory
 abbrev pub WrittenWithin : Type 0
-WrittenWithin = (bytes out : List ℕ) (count : ℕ) (after : List ℕ) → Outcome bytes out count after → count ≤ length after
+WrittenWithin = (bytes out : List ℕ) (count : ℕ) (after : List ℕ) → RunOutcome bytes out count after → count ≤ length after
 
 -- and where there is room for every answer it is the answer's text
 abbrev pub TextWritten : Type 0
 TextWritten =
-    (bytes out : List ℕ) (count : ℕ) (after : List ℕ) → Outcome bytes out count after → longest ≤ length out → take count after ≡ listingOf (runOf bytes)
+    (bytes out : List ℕ) (count : ℕ) (after : List ℕ) → RunOutcome bytes out count after → longest ≤ length out → take count after ≡ listingOf (runOf bytes)
 
 -- "show that two outcomes fitting the contract coincide"
-abbrev pub OutcomesCoincide : Type 0
-OutcomesCoincide =
-    (bytes out : List ℕ) (m n : ℕ) (after other : List ℕ) → Outcome bytes out m after → Outcome bytes out n other → (m ≡ n) × (after ≡ other)
+abbrev pub RunsCoincide : Type 0
+RunsCoincide =
+    (bytes out : List ℕ) (m n : ℕ) (after other : List ℕ) → RunOutcome bytes out m after → RunOutcome bytes out n other → (m ≡ n) × (after ≡ other)

@@ -1,3 +1,4 @@
 pub mod Run
 pub mod Laws
 pub mod Table
+pub mod Lent

@@ -8,8 +8,8 @@ use Rattle.tree.specs.declared.Answer.the-variants.{TurnedBack}
 use Rattle.depth2.specs.Search.{searchOf}
 use Rattle.prepare.specs.Laws.{preparedSheet}
 use Rattle.sheet_bytes.specs.declared.Head.{Head}
-use Rattle.head_numbers.specs.Numbers.{termsOf}
-use Rattle.sheet_search.specs.Lent.{wordsLent}
+use Rattle.sheet_bytes.specs.Numbers.{termsRead}
+use Rattle.rule_finder.specs.Lent.{wordsLent}
 use Rattle.sheet_bytes.specs.declared.Read.{Read}
 use Rattle.sheet_bytes.specs.declared.Read.the-variants as read
 use Rattle.sheet_bytes.specs.Read.{valuesOf, codesOf, readOf}
@@ -21,7 +21,7 @@ sheetRead bytes h = preparedSheet (h .rows) (h .columns) (h .labels) (valuesOf b
 -- "A refused sheet prints `REFUSED 22 place=3`", with the reader's number and place; any other is searched
 unfoldable pub answerTo : List ℕ → Read → Answer
 answerTo bytes (read.Refused number place) = TurnedBack number place
-answerTo bytes (read.Sheet h) = searchOf (sheetRead bytes h) (termsOf h) wordsLent
+answerTo bytes (read.Sheet h) = searchOf (sheetRead bytes h) (termsRead h) wordsLent
 
 unfoldable pub runOf : List ℕ → Answer
 runOf bytes = answerTo bytes (readOf bytes)

@@ -5,11 +5,11 @@ use lib.ListN.{take, set}
 use Rattle.sheet_bytes.specs.Table.{worked}
 use Rattle.listing.specs.Table as listing
 
-pub record Entry : Type 0 where
+pub record RunEntry : Type 0 where
   pub bytes : List ℕ
   pub text : List ℕ
 
-unfoldable pub tableP : List Entry
+unfoldable pub tableP : List RunEntry
 tableP =
     -- T5, "prints in full": `FOUND error=0 column=0 at=4004000000000000 tried=1`, with two lines `SPLIT`
     record { bytes = worked; text = listing.entry1 .text }

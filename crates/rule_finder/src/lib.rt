@@ -1,11 +1,13 @@
 // The finder as one function: a sheet's bytes in, the text of its answer out.
+mod sheet_search;
+
 ghost use mathlib.Core.Path.{_≡_};
-ghost use Rattle.listing.specs.Listing.{writtenOf, outOf};
+ghost use Rattle.listing.specs.Listing.{ListedIn};
 ghost use Rattle.rule_finder.specs.Run.{runOf};
+use crate::sheet_search::find;
 use sheet_bytes::Read;
-use sheet_room::MOST_CELLS;
-use sheet_room::MOST_READ;
-use sheet_search::find;
+use sheet_bytes::sheet_room::MOST_CELLS;
+use sheet_bytes::sheet_room::MOST_READ;
 use tree::Answer;
 
 fn answer_to(bytes: &[u8]) -> Answer
@@ -26,8 +28,7 @@ fn answer_to(bytes: &[u8]) -> Answer
 
 // The answer to a sheet's bytes, as text at the start of `out`, and its length. Nothing is written where there is no room for every answer.
 pub fn run(bytes: &[u8], out: &mut [u8]) -> usize
-    ensures length { λ r. ⌜ r ≡ writtenOf (runOf (now (bytes .entry))) (now (out .entry)) ⌝ }
-    ensures text { λ r. ⌜ now (out .exit) ≡ outOf (runOf (now (bytes .entry))) (now (out .entry)) ⌝ }
+    ensures { λ r. ⌜ ListedIn (runOf (now (bytes .entry))) (now (out .entry)) r (now (out .exit)) ⌝ }
 {
     let answer = answer_to(bytes);
     listing::write_answer(answer, out)

@@ -1,10 +1,10 @@
 // Document 01's table T and its run cases, through the code. A case's line says what became of scratch: how many words are 0 from the start on, and
 // how many after them are as they were. The search's own answer follows as its listing.
 ghost use Prim.Native.Nat.{_≤_};
+use basics::smaller;
 use digits::HEX_PLACES;
 use libc::STDOUT_FILENO;
 use listing::LONGEST;
-use numbers::smaller;
 use sheet::Size;
 use sheet::Terms;
 

@@ -7,14 +7,14 @@ use mathlib.Core.Bool.{Bool, true, false, not}
 use lib.Dec.{T, T-not, not-T}
 use lib.Ieee.{binary64, fits, lt}
 use Rattle.basics.proofs.Choice.{order, reach}
-use Rattle.order.specs.Order.{comparable, key}
-use Rattle.order.proofs.Order.{not-lt→}
+use Rattle.threshold.specs.Order.{comparable, key}
+use Rattle.threshold.proofs.Keys.{not-lt→}
 use Rattle.threshold.specs.Threshold.{within}
 use Rattle.threshold.specs.Laws.{Measured}
 use Rattle.threshold.proofs.Law.{measured-comparable}
 use Rattle.sheet.specs.declared.Terms.{Terms}
 use Rattle.sheet.specs.Sheet.{Sheet, valueOf, labelOf, rowAt, valueAt, orderOf, placesOf}
-use Rattle.sheet.specs.Sound.{Limited, Cuts, Column, Sound}
+use Rattle.sheet.specs.Sound.{Limited, Cuts, SoundColumn, Sound}
 use Rattle.sheet.specs.Check.{sizeHolds, badCuts, cutsOf, same}
 use Rattle.sheet.specs.Laws.{Condition, Doubles, AcceptedSound}
 use Rattle.sheet.proofs.Lists.{same-yes}
@@ -34,7 +34,7 @@ double s doubles c r = doubles (c * s .rows + r)
 
 module _ (s : Sheet) (t : Terms) (words : ℕ) (doubles : Doubles s) (none : (n p : ℕ) → Condition s t words n p → ⊥) where
   in-limits : Limited s
-  in-limits = limited s (passes (sizeHolds s) (λ u. none 1 0 (refl, size-from s u)))
+  in-limits = limited s (passes (sizeHolds (s .rows) (s .columns) (s .labels)) (λ u. none 1 0 (refl, size-from s u)))
 
   label-below : (r : ℕ) → r < s .rows → labelOf s r < s .labels
   label-below r h = order (s .labels) (labelOf s r) (λ g. absurd (none 6 r (h, g))) (λ l. l)
@@ -90,7 +90,7 @@ module _ (s : Sheet) (t : Terms) (words : ℕ) (doubles : Doubles s) (none : (n 
     unfolding badCuts
     cuts-exact = listed-cuts s c (in-limits .rows-some) (same-yes (placesOf s c) (cutsOf s c) (passes (same (placesOf s c) (cutsOf s c)) (λ u. none 9 c (cuts-from s c h u))))
 
-    column-sound : Column s c
+    column-sound : SoundColumn s c
     unfolding orderOf
     column-sound =
         record {

@@ -7,12 +7,12 @@ use Rattle.basics.proofs.Choice.{and-left, and-right}
 use Rattle.sheet.specs.declared.Terms.{Terms}
 use Rattle.sheet.specs.declared.Checked.{Checked}
 use Rattle.sheet.specs.declared.Checked.the-variants.{Accepted}
-use Rattle.sheet.specs.Limits.{mostRows, mostColumns, mostLabels}
+use Rattle.sheet.specs.Limits.{mostRows, mostColumns, mostLabels, mostSupport, mostError}
 use Rattle.sheet.specs.Reasons.{lengthWrong, scratchShort, termAbove, labelHigh, orderWrong, valueFalls, cutsWrong}
 use Rattle.sheet.specs.Sheet.{Sheet}
 use Rattle.sheet.specs.Sound.{Limited}
-use Rattle.sheet.specs.Laws.{Lengths}
-use Rattle.sheet.specs.Check.{cellsOf, between, sizeHolds, lengthsHold, badLabel, badOrder, falls, badCuts, atIndex, reason, contentOf, whole, termsHold, scratchHolds}
+use Rattle.sheet.specs.Laws.{Lengths, TermsLimited}
+use Rattle.sheet.specs.Check.{cellsOf, between, gridHolds, sizeHolds, lengthsHold, badLabel, badOrder, falls, badCuts, atIndex, reason, contentOf, whole, termsHold, scratchHolds}
 
 -- ---- reasons 1 to 4
 
@@ -20,17 +20,47 @@ within-limits : (least n most : ℕ) → T (between least n most) → (least ≤
 within-limits least n most t =
     (leb→le least n (and-left (leb least n) (leb n most) t), leb→le n most (and-right (leb least n) (leb n most) t))
 
-pub limited : (s : Sheet) → T (sizeHolds s) → Limited s
-unfolding sizeHolds
+module _ (rows columns : ℕ) (t : T (gridHolds rows columns)) where
+  pub rows-inside : (1 ≤ rows) × (rows ≤ mostRows)
+  unfolding gridHolds
+  rows-inside = within-limits 1 rows mostRows (and-left (between 1 rows mostRows) (between 1 columns mostColumns) t)
+
+  pub columns-inside : (1 ≤ columns) × (columns ≤ mostColumns)
+  unfolding gridHolds
+  columns-inside = within-limits 1 columns mostColumns (and-right (between 1 rows mostRows) (between 1 columns mostColumns) t)
+
+module _ (rows columns labels : ℕ) (t : T (sizeHolds rows columns labels)) where
+  pub grid-inside : T (gridHolds rows columns)
+  unfolding sizeHolds
+  grid-inside = and-left (gridHolds rows columns) (between 1 labels mostLabels) t
+
+  pub labels-inside : (1 ≤ labels) × (labels ≤ mostLabels)
+  unfolding sizeHolds
+  labels-inside = within-limits 1 labels mostLabels (and-right (gridHolds rows columns) (between 1 labels mostLabels) t)
+
+pub limited : (s : Sheet) → T (sizeHolds (s .rows) (s .columns) (s .labels)) → Limited s
 limited s t =
-    let a : Bool = between 1 (s .rows) mostRows in
-    let b : Bool = between 1 (s .columns) mostColumns in
-    let d : Bool = between 1 (s .labels) mostLabels in
-    let u : T (a && b) = and-left (a && b) d t in
-    let r : (1 ≤ s .rows) × (s .rows ≤ mostRows) = within-limits 1 (s .rows) mostRows (and-left a b u) in
-    let c : (1 ≤ s .columns) × (s .columns ≤ mostColumns) = within-limits 1 (s .columns) mostColumns (and-right a b u) in
-    let l : (1 ≤ s .labels) × (s .labels ≤ mostLabels) = within-limits 1 (s .labels) mostLabels (and-right (a && b) d t) in
+    let g : T (gridHolds (s .rows) (s .columns)) = grid-inside (s .rows) (s .columns) (s .labels) t in
+    let r : (1 ≤ s .rows) × (s .rows ≤ mostRows) = rows-inside (s .rows) (s .columns) g in
+    let c : (1 ≤ s .columns) × (s .columns ≤ mostColumns) = columns-inside (s .rows) (s .columns) g in
+    let l : (1 ≤ s .labels) × (s .labels ≤ mostLabels) = labels-inside (s .rows) (s .columns) (s .labels) t in
     record { rows-some = r .0; rows-most = r .1; columns-some = c .0; columns-most = c .1; labels-some = l .0; labels-most = l .1 }
+
+pub terms-limited : (t : Terms) → T (termsHold t) → TermsLimited t
+unfolding termsHold
+terms-limited t h =
+    let a : Bool = leb (t .support) mostSupport in
+    let b : Bool = leb (t .gap) mostError in
+    let d : Bool = leb (t .error) mostError in
+    let e : Bool = leb (t .bound) mostError in
+    let u : T (a && b && d) = and-left (a && b && d) e h in
+    let v : T (a && b) = and-left (a && b) d u in
+    record {
+      support = leb→le (t .support) mostSupport (and-left a b v);
+      gap = leb→le (t .gap) mostError (and-right a b v);
+      error = leb→le (t .error) mostError (and-right (a && b) d u);
+      bound = leb→le (t .bound) mostError (and-right (a && b && d) e h);
+    }
 
 pub measured-lists : (s : Sheet) → T (lengthsHold s) → Lengths s
 unfolding lengthsHold

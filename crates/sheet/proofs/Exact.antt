@@ -19,7 +19,7 @@ use Rattle.sheet.specs.declared.Checked.the-variants.{Accepted, Refused}
 use Rattle.sheet.specs.Limits.{mostRows, mostColumns, mostLabels, mostSupport, mostError, wordsPerRow}
 use Rattle.sheet.specs.Sheet.{Sheet, valueOf, labelOf, rowAt, valueAt, placesOf}
 use Rattle.sheet.specs.Sound.{Limited}
-use Rattle.sheet.specs.Check.{cellsOf, between, sizeHolds, lengthsHold, scratchHolds, termsHold, badValue, badLabel, badOrder, met, falls, badCuts, cutsOf, same, atIndex, reason, whole, contentOf, checkOf}
+use Rattle.sheet.specs.Check.{cellsOf, between, gridHolds, sizeHolds, lengthsHold, scratchHolds, termsHold, badValue, badLabel, badOrder, met, falls, badCuts, cutsOf, same, atIndex, reason, whole, contentOf, checkOf}
 use Rattle.sheet.specs.Laws.{Lengths, conditionsOf, Condition, First, GivenExactly, AcceptedExactly, TermAbove, ValueOutside, LabelHigh, OrderWrong, ValueFalls, CutsWrong}
 use Rattle.sheet.proofs.Search.{clean-walk, walk-bad, untruth}
 use Rattle.sheet.proofs.Numbered.{None, next, none0}
@@ -31,13 +31,13 @@ use Rattle.sheet.proofs.Answer.{limited, measured-lists, rest2, rest3, 
 
 -- ---- tests and conditions: the whole call
 
-pub size-to : (s : Sheet) → (Limited s → ⊥) → T (not (sizeHolds s))
-size-to s f = not-T (sizeHolds s) (λ t. f (limited s t))
+pub size-to : (s : Sheet) → (Limited s → ⊥) → T (not (sizeHolds (s .rows) (s .columns) (s .labels)))
+size-to s f = not-T (sizeHolds (s .rows) (s .columns) (s .labels)) (λ t. f (limited s t))
 
-pub size-from : (s : Sheet) → T (not (sizeHolds s)) → Limited s → ⊥
-unfolding sizeHolds
+pub size-from : (s : Sheet) → T (not (sizeHolds (s .rows) (s .columns) (s .labels))) → Limited s → ⊥
+unfolding sizeHolds gridHolds
 size-from s t l =
-    T-not (sizeHolds s) t
+    T-not (sizeHolds (s .rows) (s .columns) (s .labels)) t
     (and-both (between 1 (s .rows) mostRows && between 1 (s .columns) mostColumns) (between 1 (s .labels) mostLabels)
     (and-both (between 1 (s .rows) mostRows) (between 1 (s .columns) mostColumns) (inside 1 (s .rows) mostRows (l .rows-some) (l .rows-most))
     (inside 1 (s .columns) mostColumns (l .columns-some) (l .columns-most)))
@@ -268,7 +268,7 @@ module _ (s : Sheet) (t : Terms) (words : ℕ) where
   pub fitting : Fitting (checkOf s t words)
   unfolding checkOf contentOf
   fitting =
-      by-whole 0 (sizeHolds s) (rest2 s t words) (λ q x. size-to s (x .1)) (λ u. (refl, size-from s u)) (none0 C (λ q x. x))
+      by-whole 0 (sizeHolds (s .rows) (s .columns) (s .labels)) (rest2 s t words) (λ q x. size-to s (x .1)) (λ u. (refl, size-from s u)) (none0 C (λ q x. x))
       (λ a n1.
       let some : 1 ≤ s .rows = limited s a .rows-some in
       by-whole 1 (lengthsHold s) (rest3 s t words) (λ q x. lengths-to s (x .1)) (λ u. (refl, lengths-from s u)) n1

@@ -8,13 +8,13 @@ use lib.Dec.{T, eqb, eqb→eq}
 use Rattle.basics.specs.Lists.{tally, table}
 use Rattle.basics.proofs.Choice.{bit-true, bit-false, bit-le, decide, eqb-yes}
 use lib.Ieee.{lt}
-use Rattle.order.specs.Order.{comparable}
-use Rattle.order.proofs.Order.{lt→}
+use Rattle.threshold.specs.Order.{comparable}
+use Rattle.threshold.proofs.Keys.{lt→}
 use Rattle.threshold.proofs.Law.{measured-comparable}
 use Rattle.sheet.specs.declared.Terms.{Terms}
 use Rattle.sheet.specs.Limits.{wordsPerRow}
 use Rattle.sheet.specs.Sheet.{Sheet, rowAt, valueAt, orderOf}
-use Rattle.sheet.specs.Sound.{Sound, Column}
+use Rattle.sheet.specs.Sound.{Sound, SoundColumn}
 use Rattle.sheet.specs.Laws.{Condition, Lengths, TermsLimited, SoundAccepted}
 use Rattle.sheet.proofs.Exact.{accepted-exactly}
 
@@ -48,7 +48,7 @@ alone f r (suc n) h =
     (λ t. omega (arith, bit-le (eqb (f 0) r), none (λ k. f (suc k)) r n (λ i l e. h (suc i) 0 (omega arith) (omega arith) (eqb→eq (f 0) r t ∙ sym e))))
     (λ t. omega (arith, bit-false (eqb (f 0) r) t, alone (λ k. f (suc k)) r n (λ i j l g. h (suc i) (suc j) (omega arith) (omega arith))))
 
-module _ (s : Sheet) (c : ℕ) (col : Column s c) where
+module _ (s : Sheet) (c : ℕ) (col : SoundColumn s c) where
   met-once : (i j : ℕ) → j < i → i < s .rows → rowAt s c j ≡ rowAt s c i → ⊥
   unfolding orderOf
   met-once i j l h e =
@@ -78,7 +78,7 @@ module _ (s : Sheet) (t : Terms) (words : ℕ) (sound : Sound s) (long : Lengths
   none-holds (suc (suc (suc (suc (suc zero))))) p h = h .5 (sound .column (h .0) (h .2) .measured (h .1) (h .3) .limited)
   none-holds (suc (suc (suc (suc (suc (suc zero)))))) p h = omega (arith, h .1, sound .labelled p (h .0))
   none-holds (suc (suc (suc (suc (suc (suc (suc zero))))))) p h =
-      let col : Column s (h .0) = sound .column (h .0) (h .2) in
+      let col : SoundColumn s (h .0) = sound .column (h .0) (h .2) in
       ⊎-elim (λ a. omega (arith, a, col .in-rows (h .1) (h .3))) (λ a. met-once s (h .0) col (h .1) (a .0) (a .1) (h .3) (a .2)) (h .5)
   none-holds (suc (suc (suc (suc (suc (suc (suc (suc zero)))))))) p h = rises s (h .0) (sound .column (h .0) (h .2)) (h .1) (h .3) (h .6)
   none-holds (suc (suc (suc (suc (suc (suc (suc (suc (suc zero))))))))) p h = h .1 (sound .column p (h .0) .cuts)

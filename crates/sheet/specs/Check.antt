@@ -4,10 +4,11 @@ use mathlib.Core.Bool.{Bool, true, false, not, _&&_, _||_}
 use mathlib.Core.List.{List, [], _∷_, _++_}
 use lib.ListN.{length, getD, drop, replicate}
 use lib.Dec.{leb, ltb, eqb}
-use lib.Ieee.{Float, nan, lt}
+use lib.Ieee.{Float, nan}
 use Rattle.basics.specs.Choice.{pick}
 use Rattle.basics.specs.Lists.{those}
 use Rattle.basics.specs.Walk.{walk}
+use Rattle.threshold.specs.Order.{isBelow}
 use Rattle.threshold.specs.Threshold.{within}
 use Rattle.sheet.specs.declared.Size.{Size}
 use Rattle.sheet.specs.declared.Terms.{Terms}
@@ -37,12 +38,15 @@ cellsOf s = s .columns * s .rows
 
 -- ---- one test per reason and place
 
--- 1: no "rows, columns or labels outside limits"
+-- 1: no "rows, columns or labels outside limits". The preparer, which has no labels, goes by rows and columns
 abbrev pub between : ℕ → ℕ → ℕ → Bool
 between least n most = leb least n && leb n most
 
-unfoldable pub sizeHolds : Sheet → Bool
-sizeHolds s = between 1 (s .rows) mostRows && between 1 (s .columns) mostColumns && between 1 (s .labels) mostLabels
+unfoldable pub gridHolds : ℕ → ℕ → Bool
+gridHolds rows columns = between 1 rows mostRows && between 1 columns mostColumns
+
+unfoldable pub sizeHolds : ℕ → ℕ → ℕ → Bool
+sizeHolds rows columns labels = gridHolds rows columns && between 1 labels mostLabels
 
 -- 2: no "input slice of the wrong length"
 unfoldable pub lengthsHold : Sheet → Bool
@@ -79,7 +83,7 @@ badOrder s c i = leb (s .rows) (rowAt s c i) || met s c i
 
 -- 8: "sorted value below its predecessor", i ≥ 1, at sorted place i of column c
 unfoldable pub falls : Sheet → ℕ → ℕ → Bool
-falls s c i = leb 1 i && lt (valueAt s c i) (valueAt s c (i - 1))
+falls s c i = leb 1 i && isBelow (valueAt s c i) (valueAt s c (i - 1))
 
 -- 9: "count or cuts not exactly the value changes", of column c: the listed places are not the list of all cuts, ascending
 unfoldable pub cutsOf : Sheet → ℕ → List ℕ
@@ -119,7 +123,7 @@ contentOf s =
 
 unfoldable pub checkOf : Sheet → Terms → ℕ → Checked
 checkOf s t words =
-    whole sizeOutside (sizeHolds s)
+    whole sizeOutside (sizeHolds (s .rows) (s .columns) (s .labels))
     (whole lengthWrong (lengthsHold s)
     (whole scratchShort (scratchHolds s words)
     (whole termAbove (termsHold t)

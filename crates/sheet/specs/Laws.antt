@@ -6,7 +6,8 @@ use Prim.Native.Nat.{ℕ, _+_, _-_, _*_, _≤_, _<_}
 use mathlib.Core.List.{List, [], _∷_}
 use lib.ListN.{length, getD}
 use lib.Dec.{T}
-use lib.Ieee.{nan, binary64, fits, lt}
+use lib.Ieee.{nan, binary64, fits}
+use Rattle.threshold.specs.Order.{isBelow}
 use Rattle.threshold.specs.Threshold.{within}
 use Rattle.sheet.specs.declared.Terms.{Terms}
 use Rattle.sheet.specs.declared.Checked.the-variants.{Accepted, Refused}
@@ -59,7 +60,7 @@ OrderWrong s p =
 -- 8: "sorted value below its predecessor", the index c·rows+i, i ≥ 1
 abbrev pub ValueFalls : Sheet → ℕ → Type 0
 ValueFalls s p =
-    (c : ℕ) × (i : ℕ) × (c < s .columns) × (i < s .rows) × (p ≡ c * s .rows + i) × (1 ≤ i) × T (lt (valueAt s c i) (valueAt s c (i - 1)))
+    (c : ℕ) × (i : ℕ) × (c < s .columns) × (i < s .rows) × (p ≡ c * s .rows + i) × (1 ≤ i) × T (isBelow (valueAt s c i) (valueAt s c (i - 1)))
 
 -- 9: "count or cuts not exactly the value changes", the column. `Cuts` says what exactly they are
 abbrev pub CutsWrong : Sheet → ℕ → Type 0

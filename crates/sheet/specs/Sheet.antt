@@ -1,11 +1,11 @@
 -- Document 01, "The sheet and its numbers": what the lists of the lent slices say. Definitions only.
-use Prim.Native.Nat.{ℕ, _+_, _-_, _*_, max}
-use mathlib.Core.Bool.{Bool, _&&_}
+use Prim.Native.Nat.{ℕ, _+_, _*_, max}
+use mathlib.Core.Bool.{Bool}
 use mathlib.Core.List.{List}
 use lib.ListN.{getD}
-use lib.Dec.{leb}
-use lib.Ieee.{Float, nan, lt}
+use lib.Ieee.{Float, nan}
 use Rattle.basics.specs.Lists.{table}
+use Rattle.threshold.specs.Order.{cutAt}
 
 -- A sheet: its three numbers, and the contents of the slices that hold its values, label codes, order, cuts and counts of cuts.
 pub record Sheet : Type 0 where
@@ -34,15 +34,15 @@ rowAt s c i = getD (s .order) (c * s .rows + i) 0
 unfoldable pub valueAt : Sheet → ℕ → ℕ → Float
 valueAt s c i = valueOf s c (rowAt s c i)
 
--- "A cut is a place i ≥ 1 whose value is above that at i−1."
+-- a cut of column c
 unfoldable pub isCut : Sheet → ℕ → ℕ → Bool
-isCut s c i = leb 1 i && lt (valueAt s c (i - 1)) (valueAt s c i)
+isCut s c i = cutAt (valueAt s c) i
 
 -- "a count per column says how many": the number of column c's cuts
 unfoldable pub countOf : Sheet → ℕ → ℕ
 countOf s c = getD (s .counts) c 0
 
--- "The cut list holds column c's cuts, ascending, from c·rows on": the place of its cut number k, counted in rows
+-- "The cut list holds column c's cuts, ascending, from c·rows on": the place of its cut number k, an index of the column's order
 unfoldable pub placeOf : Sheet → ℕ → ℕ → ℕ
 placeOf s c k = getD (s .cuts) (c * s .rows + k) 0
 
@@ -56,6 +56,17 @@ orderOf s c = table (rowAt s c) (s .rows)
 -- the places of column c's cuts
 unfoldable pub placesOf : Sheet → ℕ → List ℕ
 placesOf s c = table (placeOf s c) (countOf s c)
+
+-- The rows before a sorted place of column c are as many as its index. Where rows are counted, and not places named, this is the number.
+abbrev pub rowsBefore : Sheet → ℕ → ℕ → ℕ
+rowsBefore s c i = i
+
+-- the rows before its cut number k, and before each of its cuts
+abbrev pub beforeCut : Sheet → ℕ → ℕ → ℕ
+beforeCut s c k = rowsBefore s c (placeOf s c k)
+
+abbrev pub beforeCuts : Sheet → ℕ → List ℕ
+beforeCuts s c = placesOf s c
 
 -- "Support 0 to 4,096 (0 acts as 1)."
 abbrev pub leastRows : ℕ → ℕ

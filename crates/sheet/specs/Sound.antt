@@ -4,7 +4,7 @@ use Prim.Native.Nat.{ℕ, suc, _≤_, _<_}
 use mathlib.Core.Bool.{Bool}
 use lib.Dec.{T}
 use Rattle.basics.specs.Lists.{tally}
-use Rattle.order.specs.Order.{key}
+use Rattle.threshold.specs.Order.{key}
 use Rattle.threshold.specs.Laws.{Measured}
 use Rattle.sheet.specs.Limits.{mostRows, mostColumns, mostLabels}
 use Rattle.sheet.specs.Sheet.{Sheet, valueOf, labelOf, rowAt, valueAt, isCut, countOf, placeOf, everyRow, orderOf}
@@ -27,7 +27,7 @@ pub record Cuts (s : Sheet) (c : ℕ) : Type 0 where
   pub cut : (k : ℕ) → k < countOf s c → T (isCut s c (placeOf s c k))
   pub every : (i : ℕ) → i < s .rows → T (isCut s c i) → (k : ℕ) × (k < countOf s c) × (placeOf s c k ≡ i)
 
-pub record Column (s : Sheet) (c : ℕ) : Type 0 where
+pub record SoundColumn (s : Sheet) (c : ℕ) : Type 0 where
   -- every value is finite and of magnitude at most 10 ^ 12
   pub measured : (r : ℕ) → r < s .rows → Measured (valueOf s c r)
   -- the order list has rows of the sheet, and each as often as the sheet has it: whatever is counted over it is counted over the rows
@@ -40,4 +40,4 @@ pub record Column (s : Sheet) (c : ℕ) : Type 0 where
 pub record Sound (s : Sheet) : Type 0 where
   pub limited : Limited s
   pub labelled : (r : ℕ) → r < s .rows → labelOf s r < s .labels
-  pub column : (c : ℕ) → c < s .columns → Column s c
+  pub column : (c : ℕ) → c < s .columns → SoundColumn s c

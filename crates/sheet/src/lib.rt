@@ -1,13 +1,12 @@
 // The sheet: its limits, its lists, what the input check answers, and the parts of the check that others share.
 ghost use mathlib.Core.Path.{_≡_};
 ghost use Prim.Native.Nat.{_+_, _<_, _≤_};
-ghost use mathlib.Core.List.{[]};
 ghost use lib.ListN.{length, getD};
 ghost use lib.Ieee.{nan};
 ghost use Rattle.basics.specs.Walk.{walk};
-ghost use Rattle.sheet.specs.Check.{sheetOf, between, sizeHolds, badValue, badLabel, cleared};
-use numbers::wide_byte;
-use numbers::wide_entry;
+ghost use Rattle.sheet.specs.Check.{between, gridHolds, sizeHolds, termsHold, badValue, badLabel, cleared};
+use basics::wide_byte;
+use basics::wide_entry;
 
 // The numbers of a sheet; they may hold anything until the check has accepted them.
 pub struct Size {
@@ -37,9 +36,9 @@ pub const MOST_COLUMNS: usize = 16;
 
 pub const MOST_LABELS: usize = 32;
 
-pub const MOST_SUPPORT: u32 = 4096;
+const MOST_SUPPORT: u32 = 4096;
 
-pub const MOST_ERROR: u32 = 1000000;
+const MOST_ERROR: u32 = 1000000;
 
 pub const WORDS_PER_ROW: usize = 8;
 
@@ -120,14 +119,35 @@ fn is_between(least: usize, n: usize, most: usize) -> bool
     n <= most
 }
 
-pub fn size_holds(size: Size) -> bool
-    ensures { λ r. ⌜ r ≡ sizeHolds (sheetOf size [] [] [] [] []) ⌝ }
+pub fn grid_holds(rows: usize, columns: usize) -> bool
+    ensures { λ r. ⌜ r ≡ gridHolds rows columns ⌝ }
 {
-    if !is_between(1, size.rows, MOST_ROWS) {
+    if !is_between(1, rows, MOST_ROWS) {
         return false;
     }
-    if !is_between(1, size.columns, MOST_COLUMNS) {
+    is_between(1, columns, MOST_COLUMNS)
+}
+
+pub fn size_holds(size: Size) -> bool
+    ensures { λ r. ⌜ r ≡ sizeHolds (size .rows) (size .columns) (size .labels) ⌝ }
+{
+    if !grid_holds(size.rows, size.columns) {
         return false;
     }
     is_between(1, size.labels, MOST_LABELS)
+}
+
+pub fn terms_hold(terms: Terms) -> bool
+    ensures { λ r. ⌜ r ≡ termsHold terms ⌝ }
+{
+    if MOST_SUPPORT < terms.support {
+        return false;
+    }
+    if MOST_ERROR < terms.gap {
+        return false;
+    }
+    if MOST_ERROR < terms.error {
+        return false;
+    }
+    terms.bound <= MOST_ERROR
 }

@@ -15,8 +15,8 @@ use Rattle.basics.proofs.Choice.{nor-left, nor-right, and-left, and-right, orde
 use Rattle.basics.proofs.Lists.{getD-table}
 use Rattle.sheet_bytes.specs.declared.Head.{Head}
 use Rattle.sheet_bytes.specs.Bytes.{byteAt, numberAt, marked, headMark, rowMark}
-use Rattle.sheet_room.specs.Room.{headSize, rowSize}
-use Rattle.sheet_bytes.specs.Read.{headOf, startOf, codeOf, cellsOf, cellAt, bitsOf, valueOf, valuesOf, codesOf, headBad, rowBad, further, Small}
+use Rattle.sheet_bytes.specs.Room.{headSize, rowSize}
+use Rattle.sheet_bytes.specs.Read.{headOf, rowStart, codeOf, headCells, cellAt, bitsOf, valueRead, valuesOf, codesOf, headBad, rowBad, further, SmallHead}
 use Rattle.sheet_bytes.specs.Laws.{Accepted}
 use Rattle.sheet_bytes.specs.Encode.{bytesOf, inTurn, headBytes, rowBytes, encodeOf, Exact}
 use Rattle.sheet_bytes.proofs.Numbers.{number-within}
@@ -83,33 +83,33 @@ module _ (bytes : List ℕ) (small : (at : ℕ) → getD bytes at 0 < 256) where
     abbrev back : List ℕ
     back = encodeOf h (valuesOf bytes h) (codesOf bytes h)
 
-    fair : Small h
+    fair : SmallHead h
     fair = small-accepted bytes h a
 
     head-marked : T (marked headMark bytes 0)
     unfolding headBad
     head-marked = twice-not (marked headMark bytes 0) (nor-right (ltb (length bytes) headSize) (not (marked headMark bytes 0)) (a .head-good))
 
-    row-marked : (row : ℕ) → row < h .rows → T (marked rowMark bytes (startOf (h .columns) row))
+    row-marked : (row : ℕ) → row < h .rows → T (marked rowMark bytes (rowStart (h .columns) row))
     unfolding rowBad
     row-marked row r =
-        twice-not (marked rowMark bytes (startOf (h .columns) row))
-        (nor-right (ltb (length bytes) (startOf (h .columns) (suc row))) (not (marked rowMark bytes (startOf (h .columns) row))) (a .rows-good row r))
+        twice-not (marked rowMark bytes (rowStart (h .columns) row))
+        (nor-right (ltb (length bytes) (rowStart (h .columns) (suc row))) (not (marked rowMark bytes (rowStart (h .columns) row))) (a .rows-good row r))
 
     -- ---- as many bytes as the header says
 
-    reaches : (row : ℕ) → row < h .rows → startOf (h .columns) (suc row) ≤ length bytes
+    reaches : (row : ℕ) → row < h .rows → rowStart (h .columns) (suc row) ≤ length bytes
     unfolding rowBad
     reaches row r =
-        nltb→le (length bytes) (startOf (h .columns) (suc row))
-        (nor-left (ltb (length bytes) (startOf (h .columns) (suc row))) (not (marked rowMark bytes (startOf (h .columns) row))) (a .rows-good row r))
+        nltb→le (length bytes) (rowStart (h .columns) (suc row))
+        (nor-left (ltb (length bytes) (rowStart (h .columns) (suc row))) (not (marked rowMark bytes (rowStart (h .columns) row))) (a .rows-good row r))
 
-    all-there : length bytes ≡ startOf (h .columns) (h .rows)
+    all-there : length bytes ≡ rowStart (h .columns) (h .rows)
     unfolding further
     all-there =
         let last : suc (h .rows - 1) ≡ h .rows = omega (arith, fair .rows-some) in
-        let low : startOf (h .columns) (h .rows) ≤ length bytes = subst (λ (k : ℕ). startOf (h .columns) k ≤ length bytes) last (reaches (h .rows - 1) (omega (arith, fair .rows-some))) in
-        omega (arith, nltb→le (startOf (h .columns) (h .rows)) (length bytes) (a .no-more))
+        let low : rowStart (h .columns) (h .rows) ≤ length bytes = subst (λ (k : ℕ). rowStart (h .columns) k ≤ length bytes) last (reaches (h .rows - 1) (omega (arith, fair .rows-some))) in
+        omega (arith, nltb→le (rowStart (h .columns) (h .rows)) (length bytes) (a .no-more))
 
     -- ---- the header
 
@@ -132,28 +132,28 @@ module _ (bytes : List ℕ) (small : (at : ℕ) → getD bytes at 0 < 256) where
     -- ---- a row
 
     cell-back : (row column j : ℕ) → row < h .rows → column < h .columns → j < 8
-        → getD (cell h (valuesOf bytes h) (codesOf bytes h) row column) j 0 ≡ byteAt bytes (startOf (h .columns) row + 3 + 8 * column + j)
-    unfolding valuesOf valueOf bitsOf cellAt
+        → getD (cell h (valuesOf bytes h) (codesOf bytes h) row column) j 0 ≡ byteAt bytes (rowStart (h .columns) row + 3 + 8 * column + j)
+    unfolding valuesOf valueRead bitsOf cellAt
     cell-back row column j r k g =
         let i = column * h .rows + row in
-        let at = startOf (h .columns) row + 3 + 8 * column in
-        let inside : i < cellsOf h = digits-lt k r in
+        let at = rowStart (h .columns) row + 3 + 8 * column in
+        let inside : i < headCells h = digits-lt k r in
         let e : numberAt 8 bytes (cellAt h i) ≡ numberAt 8 bytes at =
-        ap (λ (x : ℕ). numberAt 8 bytes (startOf (h .columns) x + 3 + 8 * (i / h .rows))) (digits-mod column r)
-        ∙ ap (λ (x : ℕ). numberAt 8 bytes (startOf (h .columns) row + 3 + 8 * x)) (digits-div column r) in
+        ap (λ (x : ℕ). numberAt 8 bytes (rowStart (h .columns) x + 3 + 8 * (i / h .rows))) (digits-mod column r)
+        ∙ ap (λ (x : ℕ). numberAt 8 bytes (rowStart (h .columns) row + 3 + 8 * x)) (digits-div column r) in
         let number : T (not (isNan (ofBits binary64 (numberAt 8 bytes (cellAt h i))))) = number-within (ofBits binary64 (numberAt 8 bytes (cellAt h i))) (valued-accepted bytes h a i inside) in
-        ap (λ (x : Float). getD (bytesOf 8 (toBits binary64 x)) j 0) (getD-table (valueOf bytes h) (cellsOf h) i nan inside)
+        ap (λ (x : Float). getD (bytesOf 8 (toBits binary64 x)) j 0) (getD-table (valueRead bytes h) (headCells h) i nan inside)
         ∙ ap (λ (n : ℕ). getD (bytesOf 8 n) j 0) (toBits-ofBits binary64 (numberAt 8 bytes (cellAt h i)) (below 8 (cellAt h i)) number ∙ e)
         ∙ ap (λ (l : List ℕ). getD l j 0) (run-back 8 at)
         ∙ getD-run 8 bytes at j g
 
-    in-a-row : (row j : ℕ) → row < h .rows → j < rowSize (h .columns) → getD (rowBytes h (valuesOf bytes h) (codesOf bytes h) row) j 0 ≡ byteAt bytes (startOf (h .columns) row + j)
+    in-a-row : (row j : ℕ) → row < h .rows → j < rowSize (h .columns) → getD (rowBytes h (valuesOf bytes h) (codesOf bytes h) row) j 0 ≡ byteAt bytes (rowStart (h .columns) row + j)
     unfolding rowBytes marked codesOf codeOf
     in-a-row row zero r k =
-        let at = startOf (h .columns) row in
+        let at = rowStart (h .columns) row in
         sym (ap (byteAt bytes) (add-zero at) ∙ eqb→eq (byteAt bytes at) 82 (and-left (eqb (byteAt bytes at) 82) (eqb (byteAt bytes (at + 1)) 87) (row-marked row r)))
     in-a-row row (suc zero) r k =
-        let at = startOf (h .columns) row in
+        let at = rowStart (h .columns) row in
         sym (eqb→eq (byteAt bytes (at + 1)) 87 (and-right (eqb (byteAt bytes at) 82) (eqb (byteAt bytes (at + 1)) 87) (row-marked row r)))
     in-a-row row (suc (suc zero)) r k = getD-table (codeOf bytes h) (h .rows) row 0 r
     in-a-row row (suc (suc (suc m))) r k =
@@ -161,7 +161,7 @@ module _ (bytes : List ℕ) (small : (at : ℕ) → getD bytes at 0 < 256) where
         let e : m / 8 * 8 + m % 8 ≡ m = div-add-mod' m 8 in
         let below-columns : m / 8 < h .columns = omega arith in
         let in-eight : m % 8 < 8 = omega arith in
-        let place : startOf (h .columns) row + 3 + 8 * (m / 8) + m % 8 ≡ startOf (h .columns) row + suc (suc (suc m)) = omega arith in
+        let place : rowStart (h .columns) row + 3 + 8 * (m / 8) + m % 8 ≡ rowStart (h .columns) row + suc (suc (suc m)) = omega arith in
         ap (λ (x : ℕ). getD (inTurn f (h .columns)) x 0) (sym e)
         ∙ getD-turn 8 f (h .columns) (λ c. length-bytes 8 (toBits binary64 (getD (valuesOf bytes h) (c * h .rows + row) nan))) (m / 8) (m % 8) below-columns in-eight
         ∙ cell-back row (m / 8) (m % 8) r below-columns in-eight
@@ -170,14 +170,14 @@ module _ (bytes : List ℕ) (small : (at : ℕ) → getD bytes at 0 < 256) where
     -- ---- past the header
 
     past : (at : ℕ) → headSize ≤ at → at < length bytes → getD back at 0 ≡ getD bytes at 0
-    unfolding startOf
+    unfolding rowStart
     past at k l =
         let size = rowSize (h .columns) in
         let q = at - headSize in
         let row = q / size in
         let some : 0 < size = omega arith in
         let split : row * size + q % size ≡ q = div-add-mod' q size in
-        let place : startOf (h .columns) row + q % size ≡ at = add-assoc headSize (row * size) (q % size) ∙ ap (λ (x : ℕ). headSize + x) split ∙ omega arith in
+        let place : rowStart (h .columns) row + q % size ≡ at = add-assoc headSize (row * size) (q % size) ∙ ap (λ (x : ℕ). headSize + x) split ∙ omega arith in
         let inside : q < h .rows * size = omega (arith, all-there) in
         let r : row < h .rows = div-lt-iff-lt-mul some .1 inside in
         ap (λ (x : ℕ). getD back x 0) (sym place)

@@ -11,7 +11,8 @@ use lib.Ieee.Bits.{nanBits-is, nanBits-above}
 use Rattle.threshold.specs.Threshold.{within}
 use Rattle.sheet_bytes.specs.declared.Head.{Head}
 use Rattle.sheet_bytes.specs.Bytes.{byteAt, numberAt}
-use Rattle.sheet_room.specs.Room.{rowSize}
+use Rattle.sheet.specs.Limits.{mostColumns}
+use Rattle.sheet_bytes.specs.Room.{mostRead, rowSize}
 
 -- ---- two numbers side by side
 
@@ -52,8 +53,8 @@ and-no a b e = ap (λ (t : Bool). t && b) e
 pub product : (m n a b : ℕ) → a ≤ m → b ≤ n → a * b ≤ m * n
 product m n a b h k = mul-le-mul h k
 
-pub start-low : (columns row : ℕ) → columns ≤ 16 → row ≤ 2048 → row * rowSize columns ≤ 268288
-start-low columns row h k = product 2048 131 row (rowSize columns) k (omega arith)
+pub start-low : (columns row : ℕ) → columns ≤ mostColumns → row ≤ mostRead → row * rowSize columns ≤ mostRead * rowSize mostColumns
+start-low columns row h k = product mostRead (rowSize mostColumns) row (rowSize columns) k (omega arith)
 
 pub in-rows : (index rows : ℕ) → 1 ≤ rows → index % rows < rows
 in-rows index rows h = mod-lt index h

@@ -2,7 +2,7 @@
 use mathlib.Core.Path.{_≡_, refl, sym, ap, _∙_, subst}
 use Prim.Native.Nat.{ℕ, _≤_, _<_}
 use native.Mathlib.Omega.{arith}
-use mathlib.Core.Bool.{Bool, true, false, not, _||_, true≢false}
+use mathlib.Core.Bool.{Bool, true, false, not, true≢false}
 use mathlib.Core.List.{List}
 use lib.Dec.{T, ltb, nltb→le}
 use borrow.Author.Tests.{lt-ltb, le-ltb}
@@ -11,13 +11,18 @@ use Rattle.threshold.specs.Threshold.{within}
 use Rattle.basics.specs.Walk.{walk}
 use Rattle.basics.proofs.Choice.{nor-left, nor-right}
 use Rattle.sheet.specs.Limits.{mostRows, mostColumns, mostLabels}
+use Rattle.sheet.specs.Check.{gridHolds, sizeHolds, termsHold}
+use Rattle.sheet.specs.declared.Terms.{Terms}
+use Rattle.sheet.specs.Laws.{TermsLimited}
+use Rattle.sheet.proofs.Answer.{grid-inside}
+use Rattle.sheet.proofs.Answer as answer
 use Rattle.sheet_bytes.specs.declared.Head.{Head}
 use Rattle.sheet_bytes.specs.declared.Read.{Read}
 use Rattle.sheet_bytes.specs.declared.Read.the-variants.{Refused, Sheet}
 use Rattle.sheet.specs.Reasons.{sizeOutside, termAbove, valueOutside, labelHigh}
-use Rattle.sheet_room.specs.Room.{mostRead, mostCells}
+use Rattle.sheet_bytes.specs.Room.{mostRead, mostCells}
 use Rattle.sheet_bytes.specs.Reasons.{headWrong, sheetLarge, rowWrong, bytesLeft}
-use Rattle.sheet_bytes.specs.Read.{headOf, cellsOf, headBad, outside, sizeBad, tooLarge, rowBad, further, termsBad, valueBad, codeBad, firstBad, fromCodes, fromValues, fromTerms, fromEnd, fromRows, fromLarge, fromSize, readOf, Small, Valued, valueOf}
+use Rattle.sheet_bytes.specs.Read.{headOf, headCells, headBad, sizeBad, tooLarge, rowBad, further, termsBad, valueBad, codeBad, firstBad, fromCodes, fromValues, fromTerms, fromEnd, fromRows, fromLarge, fromSize, readOf, SmallHead, Valued, valueRead}
 use Rattle.sheet_bytes.specs.Laws.{Accepted, Accepts}
 use Rattle.sheet_bytes.proofs.Find.{none-bad, ends}
 
@@ -45,10 +50,6 @@ module _ (number : ℕ) (bad : ℕ → Bool) (count r : ℕ) (rest : Read) (e : 
 
 -- ---- the sizes
 
-inside : (most n : ℕ) → T (not (outside most n)) → (1 ≤ n) × (n ≤ most)
-unfolding outside
-inside most n t = (nltb→le n 1 (nor-left (ltb n 1) (ltb most n) t), nltb→le most n (nor-right (ltb n 1) (ltb most n) t))
-
 untrue : (b : Bool) → b ≡ false → T (not b)
 untrue b e = subst (λ (t : Bool). T (not t)) (sym e) tt
 
@@ -56,39 +57,41 @@ is-false : (b : Bool) → T (not b) → b ≡ false
 is-false true t = absurd t
 is-false false t = refl
 
+twice-not : (b : Bool) → T (not (not b)) → T b
+twice-not true t = tt
+twice-not false t = absurd t
+
 module _ (h : Head) (t : T (not (sizeBad h))) where
-  pub rows-inside : (1 ≤ h .rows) × (h .rows ≤ mostRows)
+  size-held : T (sizeHolds (h .rows) (h .columns) (h .labels))
   unfolding sizeBad
-  rows-inside = inside mostRows (h .rows) (nor-left (outside mostRows (h .rows)) (outside mostColumns (h .columns) || outside mostLabels (h .labels)) t)
+  size-held = twice-not (sizeHolds (h .rows) (h .columns) (h .labels)) t
+
+  pub grid-held : T (gridHolds (h .rows) (h .columns))
+  grid-held = grid-inside (h .rows) (h .columns) (h .labels) size-held
+
+  pub rows-inside : (1 ≤ h .rows) × (h .rows ≤ mostRows)
+  rows-inside = answer.rows-inside (h .rows) (h .columns) grid-held
 
   pub columns-inside : (1 ≤ h .columns) × (h .columns ≤ mostColumns)
-  unfolding sizeBad
-  columns-inside =
-      inside mostColumns (h .columns)
-      (nor-left (outside mostColumns (h .columns)) (outside mostLabels (h .labels))
-      (nor-right (outside mostRows (h .rows)) (outside mostColumns (h .columns) || outside mostLabels (h .labels)) t))
+  columns-inside = answer.columns-inside (h .rows) (h .columns) grid-held
 
   pub labels-inside : (1 ≤ h .labels) × (h .labels ≤ mostLabels)
-  unfolding sizeBad
-  labels-inside =
-      inside mostLabels (h .labels)
-      (nor-right (outside mostColumns (h .columns)) (outside mostLabels (h .labels))
-      (nor-right (outside mostRows (h .rows)) (outside mostColumns (h .columns) || outside mostLabels (h .labels)) t))
+  labels-inside = answer.labels-inside (h .rows) (h .columns) (h .labels) size-held
 
-  pub small-enough : T (not (tooLarge h)) → Small h
+  pub small-enough : T (not (tooLarge h)) → SmallHead h
   unfolding tooLarge
   small-enough u =
       record {
         rows-some = rows-inside .0;
-        rows-most = nltb→le mostRead (h .rows) (nor-left (ltb mostRead (h .rows)) (ltb mostCells (cellsOf h)) u);
+        rows-most = nltb→le mostRead (h .rows) (nor-left (ltb mostRead (h .rows)) (ltb mostCells (headCells h)) u);
         columns-most = columns-inside .1;
-        cells-most = nltb→le mostCells (cellsOf h) (nor-right (ltb mostRead (h .rows)) (ltb mostCells (cellsOf h)) u);
+        cells-most = nltb→le mostCells (headCells h) (nor-right (ltb mostRead (h .rows)) (ltb mostCells (headCells h)) u);
       }
 
 pub columns-most : (h : Head) → sizeBad h ≡ false → h .columns ≤ mostColumns
 columns-most h e = columns-inside h (untrue (sizeBad h) e) .1
 
-pub small : (h : Head) → sizeBad h ≡ false → tooLarge h ≡ false → Small h
+pub small : (h : Head) → sizeBad h ≡ false → tooLarge h ≡ false → SmallHead h
 small h e f = small-enough h (untrue (sizeBad h) e) (untrue (tooLarge h) f)
 
 -- ---- an accepted sheet
@@ -126,7 +129,7 @@ accepted bytes h e =
     let p4 = through-all rowWrong (rowBad bytes g) (g .rows) (fromEnd bytes g) h (p3 .1) in
     let p5 = through (further bytes g) bytesLeft 0 (fromTerms bytes g) h (p4 .1) in
     let p6 = through (termsBad g) termAbove 0 (fromValues bytes g) h (p5 .1) in
-    let p7 = through-all valueOutside (valueBad bytes g) (cellsOf g) (fromCodes bytes g) h (p6 .1) in
+    let p7 = through-all valueOutside (valueBad bytes g) (headCells g) (fromCodes bytes g) h (p6 .1) in
     let p8 = through-all labelHigh (codeBad bytes g) (g .rows) (Sheet g) h (p7 .1) in
     subst (Accepted bytes) (same-head g h (p8 .1))
     (record {
@@ -141,7 +144,7 @@ accepted bytes h e =
       codes-good = p8 .0;
     })
 
-pub small-accepted : (bytes : List ℕ) (h : Head) → Accepted bytes h → Small h
+pub small-accepted : (bytes : List ℕ) (h : Head) → Accepted bytes h → SmallHead h
 small-accepted bytes h a = small-enough h (a .size-good) (a .not-large)
 
 -- ---- and what passes is accepted
@@ -161,7 +164,7 @@ good-sheet bytes a =
     ∙ ends-all rowWrong (rowBad bytes g) (g .rows) (fromEnd bytes g) (a .rows-good)
     ∙ passed (further bytes g) (Refused bytesLeft 0) (fromTerms bytes g) (is-false (further bytes g) (a .no-more))
     ∙ passed (termsBad g) (Refused termAbove 0) (fromValues bytes g) (is-false (termsBad g) (a .terms-good))
-    ∙ ends-all valueOutside (valueBad bytes g) (cellsOf g) (fromCodes bytes g) (a .values-good)
+    ∙ ends-all valueOutside (valueBad bytes g) (headCells g) (fromCodes bytes g) (a .values-good)
     ∙ ends-all labelHigh (codeBad bytes g) (g .rows) (Sheet g) (a .codes-good)
 
 pub accepts : Accepts
@@ -173,10 +176,13 @@ accepts bytes h =
 
 -- ---- the values of an accepted sheet
 
-twice-not : (b : Bool) → T (not (not b)) → T b
-twice-not true t = tt
-twice-not false t = absurd t
+abbrev terms : Head → Terms
+terms h = record { support = h .support; gap = h .gap; error = h .error; bound = h .bound }
+
+pub terms-limited : (h : Head) → T (not (termsBad h)) → TermsLimited (terms h)
+unfolding termsBad
+terms-limited h t = answer.terms-limited (terms h) (twice-not (termsHold (terms h)) t)
 
 pub valued-accepted : (bytes : List ℕ) (h : Head) → Accepted bytes h → Valued bytes h
 unfolding valueBad
-valued-accepted bytes h a index k = twice-not (within (valueOf bytes h index)) (a .values-good index k)
+valued-accepted bytes h a index k = twice-not (within (valueRead bytes h index)) (a .values-good index k)

@@ -15,6 +15,9 @@ numberAt zero bytes at = 0
 numberAt (suc width) bytes at = byteAt bytes at + 256 * numberAt width bytes (suc at)
 
 -- a two-byte mark, in ASCII
+abbrev pub markSize : ℕ
+markSize = 2
+
 pub record Mark : Type 0 where
   pub first : ℕ
   pub second : ℕ

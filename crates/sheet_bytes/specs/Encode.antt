@@ -7,10 +7,11 @@ use lib.ListN.{length, getD}
 use lib.Dec.{T}
 use lib.Ieee.{Float, nan, binary64, toBits}
 use Rattle.threshold.specs.Laws.{Measured}
+use Rattle.sheet_bytes.specs.Room.{valueSize}
 use Rattle.sheet_bytes.specs.declared.Head.{Head}
 use Rattle.sheet_bytes.specs.declared.Read.the-variants.{Sheet}
 use Rattle.sheet_bytes.specs.Bytes.{headMark, rowMark}
-use Rattle.sheet_bytes.specs.Read.{cellsOf, sizeBad, tooLarge, termsBad, readOf, valuesOf, codesOf}
+use Rattle.sheet_bytes.specs.Read.{headCells, sizeBad, tooLarge, termsBad, readOf, valuesOf, codesOf}
 
 -- "little-endian": a number in `width` bytes, the least first
 abbrev pub bytesOf : ℕ → ℕ → List ℕ
@@ -41,19 +42,19 @@ rowBytes h values codes row =
     rowMark .first
     ∷ rowMark .second
     ∷ getD codes row 0
-    ∷ inTurn (λ column. bytesOf 8 (toBits binary64 (getD values (column * h .rows + row) nan))) (h .columns)
+    ∷ inTurn (λ column. bytesOf valueSize (toBits binary64 (getD values (column * h .rows + row) nan))) (h .columns)
 
 unfoldable pub encodeOf : Head → List Float → List ℕ → List ℕ
 encodeOf h values codes = headBytes h ++ inTurn (rowBytes h values codes) (h .rows)
 
 -- a sheet within the limits
-pub record Within (h : Head) (values : List Float) (codes : List ℕ) : Type 0 where
+pub record WithinLimits (h : Head) (values : List Float) (codes : List ℕ) : Type 0 where
   pub size-good : T (not (sizeBad h))
   pub not-large : T (not (tooLarge h))
   pub terms-good : T (not (termsBad h))
-  pub cells : length values ≡ cellsOf h
+  pub cells : length values ≡ headCells h
   pub rows : length codes ≡ h .rows
-  pub measured : (index : ℕ) → index < cellsOf h → Measured (getD values index nan)
+  pub measured : (index : ℕ) → index < headCells h → Measured (getD values index nan)
   pub coded : (row : ℕ) → row < h .rows → getD codes row 0 < h .labels
 
 -- bytes that are accepted, and say just this sheet
@@ -64,7 +65,7 @@ pub record Decodes (bytes : List ℕ) (h : Head) (values : List Float) (codes : 
 
 -- every sheet within the limits, encoded, is accepted and decodes to itself
 abbrev pub RoundTrip : Type 0
-RoundTrip = (h : Head) (values : List Float) (codes : List ℕ) → Within h values codes → Decodes (encodeOf h values codes) h values codes
+RoundTrip = (h : Head) (values : List Float) (codes : List ℕ) → WithinLimits h values codes → Decodes (encodeOf h values codes) h values codes
 
 -- what is accepted decodes to these numbers: bytes that are accepted are just the encoding of what they decode to
 abbrev pub Exact : Type 0

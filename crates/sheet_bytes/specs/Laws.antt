@@ -6,7 +6,7 @@ use mathlib.Core.List.{List}
 use lib.Dec.{T}
 use Rattle.sheet_bytes.specs.declared.Head.{Head}
 use Rattle.sheet_bytes.specs.declared.Read.the-variants.{Sheet}
-use Rattle.sheet_bytes.specs.Read.{headOf, cellsOf, headBad, sizeBad, tooLarge, rowBad, further, termsBad, valueBad, codeBad, readOf}
+use Rattle.sheet_bytes.specs.Read.{headOf, headCells, headBad, sizeBad, tooLarge, rowBad, further, termsBad, valueBad, codeBad, readOf}
 
 -- no reason's condition holds, anywhere
 pub record Accepted (bytes : List ℕ) (h : Head) : Type 0 where
@@ -17,7 +17,7 @@ pub record Accepted (bytes : List ℕ) (h : Head) : Type 0 where
   pub rows-good : (row : ℕ) → row < h .rows → T (not (rowBad bytes h row))
   pub no-more : T (not (further bytes h))
   pub terms-good : T (not (termsBad h))
-  pub values-good : (index : ℕ) → index < cellsOf h → T (not (valueBad bytes h index))
+  pub values-good : (index : ℕ) → index < headCells h → T (not (valueBad bytes h index))
   pub codes-good : (row : ℕ) → row < h .rows → T (not (codeBad bytes h row))
 
 -- a sheet is accepted exactly if that is so

@@ -4,3 +4,5 @@ pub mod Read
 pub mod Laws
 pub mod Encode
 pub mod Table
+pub mod Room
+pub mod Numbers

@@ -20,11 +20,11 @@ worked =
 abbrev pub workedHead : Head
 workedHead = record { rows = 4; columns = 1; labels = 2; support = 1; gap = 0; error = 2; bound = 1000000 }
 
-pub record Entry : Type 0 where
+pub record ReadEntry : Type 0 where
   pub bytes : List ℕ
   pub answer : Read
 
-unfoldable pub tableR : List Entry
+unfoldable pub tableR : List ReadEntry
 tableR =
     record { bytes = worked; answer = Sheet workedHead }
     -- a header short, or mismarked

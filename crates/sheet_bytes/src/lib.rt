@@ -1,19 +1,20 @@
 // A sheet's bytes, read into lent memory. Everything is checked before anything is written.
+pub mod head_numbers;
+pub mod sheet_room;
+
+use crate::sheet_room::HEAD_SIZE;
+use crate::sheet_room::MOST_CELLS;
+use crate::sheet_room::MOST_READ;
+use crate::sheet_room::ROW_FIXED;
+use crate::sheet_room::VALUE_SIZE;
 use sheet::LABEL_HIGH;
-use sheet::MOST_COLUMNS;
-use sheet::MOST_ERROR;
-use sheet::MOST_LABELS;
-use sheet::MOST_ROWS;
-use sheet::MOST_SUPPORT;
 use sheet::SCRATCH_SHORT;
 use sheet::SIZE_OUTSIDE;
+use sheet::Size;
 use sheet::TERM_ABOVE;
+use sheet::Terms;
 use sheet::VALUE_OUTSIDE;
-use sheet_room::HEAD_SIZE;
-use sheet_room::MOST_CELLS;
-use sheet_room::MOST_READ;
-use sheet_room::ROW_FIXED;
-use sheet_room::VALUE_SIZE;
+use sheet::WORDS_PER_ROW;
 ghost use mathlib.Core.Path.{_≡_};
 ghost use Prim.Native.Nat.{_^_, _≤_, _<_};
 ghost use lib.ListN.{length};
@@ -21,8 +22,10 @@ ghost use lib.Seq.{sets};
 ghost use lib.Ieee.{binary64, ofBits};
 ghost use Rattle.basics.specs.Walk.{walk};
 ghost use Rattle.threshold.specs.Threshold.{within};
+ghost use Rattle.sheet.specs.Limits.{mostColumns};
+ghost use Rattle.sheet_bytes.specs.Room.{mostRead};
 ghost use Rattle.sheet_bytes.specs.Bytes.{byteAt, numberAt, marked};
-ghost use Rattle.sheet_bytes.specs.Read.{headOf, startOf, codeOf, cellsOf, cellAt, valuesOf, codesOf, headBad, outside, sizeBad, tooLarge, rowBad, further, termsBad, valueBad, codeBad, fromTerms, readOf, Small, Valued, answerOf, valuesIn, codesIn};
+ghost use Rattle.sheet_bytes.specs.Read.{headOf, rowStart, lastStart, codeOf, headCells, cellAt, valuesOf, codesOf, headBad, sizeBad, tooLarge, rowBad, further, termsBad, valueBad, codeBad, badRow, fromTerms, readOf, SmallHead, Valued, ReadInto};
 
 // The numbers of the header.
 pub struct Head {
@@ -56,6 +59,9 @@ const ERROR_AT: usize = 12;
 const BOUND_AT: usize = 16;
 
 const CODE_PLACE: usize = 2;
+
+// The words of scratch that the largest sheet asks for.
+pub const MOST_WORDS: usize = WORDS_PER_ROW * MOST_READ;
 
 const HEAD_WRONG: u32 = 20;
 
@@ -145,26 +151,18 @@ fn head_bad(bytes: &[u8]) -> bool
     }
 }
 
-fn is_outside(most: usize, n: usize) -> bool
-    ensures { λ r. ⌜ r ≡ outside most n ⌝ }
-{
-    if n < 1 { true } else { most < n }
-}
-
 fn size_bad(head: Head) -> bool
     ensures { λ r. ⌜ r ≡ sizeBad head ⌝ }
 {
-    if is_outside(MOST_ROWS, head.rows) {
-        true
-    } else if is_outside(MOST_COLUMNS, head.columns) {
-        true
-    } else {
-        is_outside(MOST_LABELS, head.labels)
-    }
+    !sheet::size_holds(Size {
+        rows: head.rows,
+        columns: head.columns,
+        labels: head.labels,
+    })
 }
 
 fn too_large(head: Head) -> bool
-    requires { ⌜ head .columns ≤ 16 ⌝ }
+    requires { ⌜ head .columns ≤ mostColumns ⌝ }
     ensures { λ r. ⌜ r ≡ tooLarge head ⌝ }
 {
     if MOST_READ < head.rows {
@@ -177,27 +175,24 @@ fn too_large(head: Head) -> bool
 fn terms_bad(head: Head) -> bool
     ensures { λ r. ⌜ r ≡ termsBad head ⌝ }
 {
-    if MOST_SUPPORT < head.support {
-        true
-    } else if MOST_ERROR < head.gap {
-        true
-    } else if MOST_ERROR < head.error {
-        true
-    } else {
-        MOST_ERROR < head.bound
-    }
+    !sheet::terms_hold(Terms {
+        support: head.support,
+        gap: head.gap,
+        error: head.error,
+        bound: head.bound,
+    })
 }
 
 fn start_of(columns: usize, row: usize) -> usize
-    requires { ⌜ (columns ≤ 16) × (row ≤ 2048) ⌝ }
-    ensures place { λ r. ⌜ r ≡ startOf columns row ⌝ }
-    ensures low { λ r. ⌜ r ≤ 268308 ⌝ }
+    requires { ⌜ (columns ≤ mostColumns) × (row ≤ mostRead) ⌝ }
+    ensures place { λ r. ⌜ r ≡ rowStart columns row ⌝ }
+    ensures low { λ r. ⌜ r ≤ lastStart ⌝ }
 {
     HEAD_SIZE + row * (ROW_FIXED + VALUE_SIZE * columns)
 }
 
 fn row_bad(bytes: &[u8], head: Head, row: usize) -> bool
-    requires { ⌜ Small head × (row < head .rows) ⌝ }
+    requires { ⌜ SmallHead head × (row < head .rows) ⌝ }
     ensures { λ r. ⌜ r ≡ rowBad (now (bytes .entry)) head row ⌝ }
 {
     if bytes.len() < start_of(head.columns, row + 1) {
@@ -207,23 +202,8 @@ fn row_bad(bytes: &[u8], head: Head, row: usize) -> bool
     }
 }
 
-// The first row that is short or mismarked; the number of rows if there is none.
-fn first_bad_row(bytes: &[u8], head: Head) -> usize
-    requires { ⌜ Small head ⌝ }
-    ensures { λ r. ⌜ r ≡ walk (rowBad (now (bytes .entry)) head) (head .rows) 0 ⌝ }
-{
-    let mut row: usize = 0;
-    while row < head.rows {
-        if row_bad(bytes, head, row) {
-            return row;
-        }
-        row += 1;
-    }
-    row
-}
-
 fn has_further(bytes: &[u8], head: Head) -> bool
-    requires { ⌜ Small head ⌝ }
+    requires { ⌜ SmallHead head ⌝ }
     ensures { λ r. ⌜ r ≡ further (now (bytes .entry)) head ⌝ }
 {
     start_of(head.columns, head.rows) < bytes.len()
@@ -231,7 +211,7 @@ fn has_further(bytes: &[u8], head: Head) -> bool
 
 // Where the bits of a value stand.
 fn cell_at(head: Head, index: usize) -> usize
-    requires { ⌜ Small head × (index < cellsOf head) ⌝ }
+    requires { ⌜ SmallHead head × (index < headCells head) ⌝ }
     ensures place { λ r. ⌜ r ≡ cellAt head index ⌝ }
     ensures low { λ r. ⌜ r < 2 ^ 30 ⌝ }
 {
@@ -252,7 +232,7 @@ fn bits_within(bits: u64) -> bool
 }
 
 fn value_bad(bytes: &[u8], head: Head, index: usize) -> bool
-    requires { ⌜ Small head × (index < cellsOf head) ⌝ }
+    requires { ⌜ SmallHead head × (index < headCells head) ⌝ }
     ensures { λ r. ⌜ r ≡ valueBad (now (bytes .entry)) head index ⌝ }
 {
     !bits_within(bits_at(bytes, cell_at(head, index)))
@@ -260,8 +240,8 @@ fn value_bad(bytes: &[u8], head: Head, index: usize) -> bool
 
 // The index of the first value that is not finite or too large; the number of values if there is none.
 fn first_bad_value(bytes: &[u8], head: Head) -> usize
-    requires { ⌜ Small head ⌝ }
-    ensures { λ r. ⌜ r ≡ walk (valueBad (now (bytes .entry)) head) (cellsOf head) 0 ⌝ }
+    requires { ⌜ SmallHead head ⌝ }
+    ensures { λ r. ⌜ r ≡ walk (valueBad (now (bytes .entry)) head) (headCells head) 0 ⌝ }
 {
     let cells = head.columns * head.rows;
     let mut index: usize = 0;
@@ -275,27 +255,38 @@ fn first_bad_value(bytes: &[u8], head: Head) -> usize
 }
 
 fn code_at(bytes: &[u8], head: Head, row: usize) -> u8
-    requires { ⌜ Small head × (row < head .rows) ⌝ }
+    requires { ⌜ SmallHead head × (row < head .rows) ⌝ }
     ensures { λ r. ⌜ r ≡ codeOf (now (bytes .entry)) head row ⌝ }
 {
     byte_at(bytes, start_of(head.columns, row) + CODE_PLACE) as u8
 }
 
 fn code_bad(bytes: &[u8], head: Head, row: usize) -> bool
-    requires { ⌜ Small head × (row < head .rows) ⌝ }
+    requires { ⌜ SmallHead head × (row < head .rows) ⌝ }
     ensures { λ r. ⌜ r ≡ codeBad (now (bytes .entry)) head row ⌝ }
 {
     head.labels <= code_at(bytes, head, row) as usize
 }
 
-// The first row whose label code is too high; the number of rows if there is none.
-fn first_bad_code(bytes: &[u8], head: Head) -> usize
-    requires { ⌜ Small head ⌝ }
-    ensures { λ r. ⌜ r ≡ walk (codeBad (now (bytes .entry)) head) (head .rows) 0 ⌝ }
+fn is_bad(bytes: &[u8], head: Head, row: usize, coded: bool) -> bool
+    requires { ⌜ SmallHead head × (row < head .rows) ⌝ }
+    ensures { λ r. ⌜ r ≡ badRow coded (now (bytes .entry)) head row ⌝ }
+{
+    if coded {
+        code_bad(bytes, head, row)
+    } else {
+        row_bad(bytes, head, row)
+    }
+}
+
+// The first row whose label code is too high, or else that is short or mismarked; the number of rows if there is none.
+fn first_bad_row(bytes: &[u8], head: Head, coded: bool) -> usize
+    requires { ⌜ SmallHead head ⌝ }
+    ensures { λ r. ⌜ r ≡ walk (badRow coded (now (bytes .entry)) head) (head .rows) 0 ⌝ }
 {
     let mut row: usize = 0;
     while row < head.rows {
-        if code_bad(bytes, head, row) {
+        if is_bad(bytes, head, row, coded) {
             return row;
         }
         row += 1;
@@ -305,7 +296,7 @@ fn first_bad_code(bytes: &[u8], head: Head) -> usize
 
 // Reasons 4, 5 and 6.
 fn check_cells(bytes: &[u8], head: Head) -> Read
-    requires { ⌜ Small head ⌝ }
+    requires { ⌜ SmallHead head ⌝ }
     ensures { λ r. ⌜ r ≡ fromTerms (now (bytes .entry)) head ⌝ }
 {
     if terms_bad(head) {
@@ -321,7 +312,7 @@ fn check_cells(bytes: &[u8], head: Head) -> Read
             place: index,
         };
     }
-    let row = first_bad_code(bytes, head);
+    let row = first_bad_row(bytes, head, true);
     if row < head.rows {
         return Read::Refused {
             number: LABEL_HIGH,
@@ -354,7 +345,7 @@ fn check_sheet(bytes: &[u8]) -> Read
             place: 0,
         };
     }
-    let row = first_bad_row(bytes, head);
+    let row = first_bad_row(bytes, head, false);
     if row < head.rows {
         return Read::Refused {
             number: ROW_WRONG,
@@ -371,7 +362,7 @@ fn check_sheet(bytes: &[u8]) -> Read
 }
 
 fn fill_values(bytes: &[u8], head: Head, values: &mut [f64])
-    requires { ⌜ Small head × (cellsOf head ≤ length (now values)) × Valued (now bytes) head ⌝ }
+    requires { ⌜ SmallHead head × (headCells head ≤ length (now values)) × Valued (now bytes) head ⌝ }
     ensures { λ _. ⌜ now (values .exit) ≡ sets (now (values .entry)) 0 (valuesOf (now (bytes .entry)) head) ⌝ }
 {
     let cells = head.columns * head.rows;
@@ -384,7 +375,7 @@ fn fill_values(bytes: &[u8], head: Head, values: &mut [f64])
 }
 
 fn fill_codes(bytes: &[u8], head: Head, codes: &mut [u8])
-    requires { ⌜ Small head × (head .rows ≤ length (now codes)) ⌝ }
+    requires { ⌜ SmallHead head × (head .rows ≤ length (now codes)) ⌝ }
     ensures { λ _. ⌜ now (codes .exit) ≡ sets (now (codes .entry)) 0 (codesOf (now (bytes .entry)) head) ⌝ }
 {
     let mut row: usize = 0;
@@ -397,9 +388,7 @@ fn fill_codes(bytes: &[u8], head: Head, codes: &mut [u8])
 // The header's numbers, with the values and the label codes at the start of the lent memory; or why the bytes are refused, and then nothing
 // is written. The memory must hold the largest sheet, whatever the sheet.
 pub fn read_sheet(bytes: &[u8], values: &mut [f64], codes: &mut [u8]) -> Read
-    ensures answer { λ r. ⌜ r ≡ answerOf (now (bytes .entry)) (length (now (values .entry))) (length (now (codes .entry))) ⌝ }
-    ensures stored { λ r. ⌜ now (values .exit) ≡ valuesIn r (now (bytes .entry)) (now (values .entry)) ⌝ }
-    ensures coded { λ r. ⌜ now (codes .exit) ≡ codesIn r (now (bytes .entry)) (now (codes .entry)) ⌝ }
+    ensures { λ r. ⌜ ReadInto (now (bytes .entry)) (now (values .entry)) (now (codes .entry)) r (now (values .exit)) (now (codes .exit)) ⌝ }
 {
     if values.len() < MOST_CELLS {
         return Read::Refused {

@@ -59,7 +59,7 @@ module _ (number : ℕ) (holds : Bool) (rest : Checked) where
   whole-go t f = f ∙ sym (pick-true holds rest (Refused number 0) t)
 
 module _ (s : Sheet) (t : Terms) (words : ℕ) where
-  pub checked : checkOf s t words ≡ whole sizeOutside (sizeHolds s) (rest2 s t words)
+  pub checked : checkOf s t words ≡ whole sizeOutside (sizeHolds (s .rows) (s .columns) (s .labels)) (rest2 s t words)
   unfolding checkOf
   checked = refl
 

@@ -1,2 +1,4 @@
 -- The answer as the code finds it, for the functions here.
 mod Found
+mod Marks
+mod Matched

@@ -1,10 +1,12 @@
 // The input check as a whole: the lowest of reasons 1 to 9 that holds, and its first place.
+mod cuts_check;
+mod fall_check;
+mod order_check;
+
 use sheet::CUTS_WRONG;
 use sheet::Checked;
 use sheet::LABEL_HIGH;
 use sheet::LENGTH_WRONG;
-use sheet::MOST_ERROR;
-use sheet::MOST_SUPPORT;
 use sheet::ORDER_WRONG;
 use sheet::SCRATCH_SHORT;
 use sheet::SIZE_OUTSIDE;
@@ -16,8 +18,9 @@ use sheet::VALUE_OUTSIDE;
 use sheet::WORDS_PER_ROW;
 ghost use mathlib.Core.Path.{_≡_};
 ghost use lib.ListN.{length};
-ghost use Rattle.sheet.specs.Check.{sheetOf, lengthsHold, termsHold, contentOf, checkOf, scratchAfter};
+ghost use Rattle.sheet.specs.Check.{sheetOf, lengthsHold, contentOf};
 ghost use Rattle.sheet.specs.Ready.{Sized, Shaped};
+ghost use Rattle.sheet_check.specs.Promise.{CheckedOf};
 
 fn lengths_hold(
     size: Size,
@@ -46,21 +49,6 @@ fn lengths_hold(
     counts.len() == size.columns
 }
 
-fn terms_hold(terms: Terms) -> bool
-    ensures { λ r. ⌜ r ≡ termsHold terms ⌝ }
-{
-    if MOST_SUPPORT < terms.support {
-        return false;
-    }
-    if MOST_ERROR < terms.gap {
-        return false;
-    }
-    if MOST_ERROR < terms.error {
-        return false;
-    }
-    terms.bound <= MOST_ERROR
-}
-
 // Reasons 5 to 9. The marks may hold anything, before and after.
 fn check_lists(
     size: Size,
@@ -82,15 +70,15 @@ fn check_lists(
     if row < codes.len() {
         return Checked::Refused(LABEL_HIGH, row);
     }
-    let entry = order_check::first_bad_order(size, order, marks);
+    let entry = crate::order_check::first_bad_order(size, order, marks);
     if entry < order.len() {
         return Checked::Refused(ORDER_WRONG, entry);
     }
-    let fall = fall_check::first_fall(size, values, order);
+    let fall = crate::fall_check::first_fall(size, values, order);
     if fall < order.len() {
         return Checked::Refused(VALUE_FALLS, fall);
     }
-    let column = cuts_check::first_bad_cuts(size, values, order, cuts, counts);
+    let column = crate::cuts_check::first_bad_cuts(size, values, order, cuts, counts);
     if column < counts.len() {
         return Checked::Refused(CUTS_WRONG, column);
     }
@@ -108,8 +96,7 @@ pub fn check(
     counts: &[u16],
     scratch: &mut [u32],
 ) -> Checked
-    ensures answer { λ r. ⌜ r ≡ checkOf (sheetOf size (now (values .entry)) (now (codes .entry)) (now (order .entry)) (now (cuts .entry)) (now (counts .entry))) terms (length (now (scratch .entry))) ⌝ }
-    ensures lent { λ r. ⌜ now (scratch .exit) ≡ scratchAfter r (size .rows) (now (scratch .entry)) ⌝ }
+    ensures { λ r. ⌜ CheckedOf size terms (now (values .entry)) (now (codes .entry)) (now (order .entry)) (now (cuts .entry)) (now (counts .entry)) (now (scratch .entry)) r (now (scratch .exit)) ⌝ }
 {
     if !sheet::size_holds(size) {
         return Checked::Refused(SIZE_OUTSIDE, 0);
@@ -122,7 +109,7 @@ pub fn check(
     if scratch.len() < words {
         return Checked::Refused(SCRATCH_SHORT, 0);
     }
-    if !terms_hold(terms) {
+    if !sheet::terms_hold(terms) {
         return Checked::Refused(TERM_ABOVE, 0);
     }
     let answer = check_lists(

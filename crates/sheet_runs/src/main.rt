@@ -1,6 +1,6 @@
 // The input check on small sheets: each reason at its first and its last place, two reasons at once, and every word of scratch.
+use basics::smaller;
 use libc::STDOUT_FILENO;
-use numbers::smaller;
 use sheet::Checked;
 use sheet::Size;
 use sheet::Terms;

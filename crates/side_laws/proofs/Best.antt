@@ -10,11 +10,11 @@ use Rattle.basics.specs.Lists.{All}
 use Rattle.basics.proofs.Choice.{by-ltb}
 use Rattle.sheet.specs.Sheet.{Sheet, valueOf, labelOf}
 use Rattle.side_scan.specs.declared.SideScan.{SideScan}
-use Rattle.cut_score.specs.declared.Best.{Best}
-use Rattle.cut_score.specs.Scored.{fallen}
+use Rattle.side_scan.specs.declared.cut_score.Best.{Best}
+use Rattle.side_scan.specs.Scored.{fallen, splitBy}
 use Rattle.side_scan.specs.OneSide.{leftBest, totalOf, splitAt, onlyCounted}
-use Rattle.two_sides.specs.Kept.{Fits}
-use Rattle.two_sides.proofs.Counts.{fits-step, left-step, total-step, right-few}
+use Rattle.leaves_score.specs.Kept.{Fits}
+use Rattle.leaves_score.proofs.Counts.{fits-step, left-step, total-step, right-few}
 use Rattle.side_laws.specs.First.{better, firstBest}
 
 -- ---- laws of the first best
@@ -47,7 +47,7 @@ first-append b [] ys = refl
 first-append b (x ∷ xs) ys = first-append (better b x) xs ys
 
 pub split-score : (t : SideScan) (c : ℕ) (v : Float) → (splitAt t c v) .score ≡ totalOf t
-unfolding splitAt
+unfolding splitBy
 split-score t c v = refl
 
 -- ---- cuts do not go by best, skip and closed mark
@@ -80,7 +80,6 @@ next s c r t = onlyCounted t (labelOf s r) (valueOf s c r)
 
 -- no more can be right than the best before and all from here on
 pub total-pure : (s : Sheet) (rs : List ℕ) (t : SideScan) → Fits s rs t → totalOf t ≤ leftBest t + length rs
-unfolding totalOf
 total-pure s rs t h = omega (arith, right-few s rs t h)
 
 module _ (s : Sheet) (c : ℕ) where

@@ -10,16 +10,17 @@ use lib.Ieee.{Float, lt}
 use Rattle.basics.specs.Lists.{table}
 use Rattle.basics.proofs.Choice.{order, reach, same-bool, and-both, and-right}
 use Rattle.basics.proofs.Lists.{getD-table, length-table, tally-front}
-use Rattle.order.specs.Order.{key, comparable}
-use Rattle.order.proofs.Order.{lt→, →lt}
+use Rattle.threshold.specs.Order.{key, comparable}
+use Rattle.threshold.proofs.Keys.{lt→, →lt}
 use Rattle.threshold.specs.Laws.{Measured}
 use Rattle.threshold.proofs.Law.{measured-comparable}
 use Rattle.sheet.specs.Sheet.{Sheet, rowAt, valueAt, isCut, countOf, placeOf, everyRow, orderOf}
 use Rattle.sheet.specs.Sound.{Sound}
 use Rattle.sheet.proofs.CutsExact.{rising as places-rise}
-use Rattle.two_sides.specs.Column.{other, sizeOf}
-use Rattle.leaves_score.specs.Root.{precedingPlace, cutThreshold, markOf}
-use Rattle.side_laws.specs.Root.{AtCut, AtCuts, Ascends}
+use Rattle.leaves_score.specs.Column.{other, sizeOf}
+use Rattle.tree.specs.declared.Question.{Question}
+use Rattle.leaves_score.specs.Root.{precedingPlace, cutThreshold, cutQuestion, markOf}
+use Rattle.side_laws.specs.Root.{AtCuts, Ascends}
 use Rattle.side_laws.proofs.Tallies.{tally-not}
 use Rattle.side_laws.proofs.Fair.{keyOf, can-compare, goes, lower-is, upper-is, threshold-measured}
 
@@ -156,56 +157,62 @@ module _ (s : Sheet) (sound : Sound s) (c : ℕ) (here : c < s .columns) where
     unfolding cutThreshold valueAt
     cut-upper = upper-is s sound c here (rowAt s c (precedingPlace s c k)) (rowAt s c (placeOf s c k)) lower-in upper-in rising
 
-  -- ---- a threshold that parts the column at a place
+-- ---- a question that parts its column at a place
+
+module _ (s : Sheet) (sound : Sound s) (q : Question) (here : q .column < s .columns) where
+  abbrev c : ℕ
+  c = q .column
+
+  abbrev t : Float
+  t = q .threshold
 
   -- key t lies from the key before place p on and below the key at p
-  module _ (t : Float) (comp : T (comparable t)) (p : ℕ) (p-in : p ≤ s .rows) (from : (i : ℕ) → i < p → at i ≤ key t) (till : (i : ℕ) → p ≤ i → i < s .rows → key t < at i) where
-    pub parts-at : (i : ℕ) → i < s .rows → markOf s c t (rowAt s c i) ≡ ltb i p
+  module _ (comp : T (comparable t)) (p : ℕ) (p-in : p ≤ s .rows) (from : (i : ℕ) → i < p → key (valueAt s c i) ≤ key t) (till : (i : ℕ) → p ≤ i → i < s .rows → key t < key (valueAt s c i)) where
+    pub parts-at : (i : ℕ) → i < s .rows → markOf s q (rowAt s c i) ≡ ltb i p
     unfolding markOf
     parts-at i h =
-        goes s sound c here t comp (rowAt s c i) (row-in i h)
+        goes s sound c here t comp (rowAt s c i) (row-in s sound c here i h)
         ∙ same-bool (leb (keyOf s c (rowAt s c i)) (key t)) (ltb i p)
-        (λ y. order p i (λ l. absurd (omega (arith, leb→le (keyOf s c (rowAt s c i)) (key t) y, till i l h, at-row i))) (λ l. lt→ltb i p l))
-        (λ y. le→leb (keyOf s c (rowAt s c i)) (key t) (omega (arith, from i (ltb→lt i p y), at-row i)))
+        (λ y. order p i (λ l. absurd (omega (arith, leb→le (keyOf s c (rowAt s c i)) (key t) y, till i l h, at-row s sound c here i))) (λ l. lt→ltb i p l))
+        (λ y. le→leb (keyOf s c (rowAt s c i)) (key t) (omega (arith, from i (ltb→lt i p y), at-row s sound c here i)))
 
-    pub rows-at : sizeOf s (markOf s c t) ≡ p
+    pub rows-at : sizeOf s (markOf s q) ≡ p
     unfolding sizeOf orderOf
     rows-at =
-        sym (sound .column c here .each-once (markOf s c t))
-        ∙ tally-front (markOf s c t) (table (rowAt s c) (s .rows)) 0 p (omega (arith, length-table (rowAt s c) (s .rows)))
+        sym (sound .column c here .each-once (markOf s q))
+        ∙ tally-front (markOf s q) (table (rowAt s c) (s .rows)) 0 p (omega (arith, length-table (rowAt s c) (s .rows)))
         (λ i l. sends i (omega arith) l) (λ i l k. keeps i (omega (arith, length-table (rowAt s c) (s .rows))) l)
       where
-        sends : (i : ℕ) → i < s .rows → i < p → T (markOf s c t (getD (table (rowAt s c) (s .rows)) i 0))
-        sends i h l =
-            subst (λ (r : ℕ). T (markOf s c t r)) (sym (getD-table (rowAt s c) (s .rows) i 0 h)) (subst T (sym (parts-at i h)) (lt→ltb i p l))
+        sends : (i : ℕ) → i < s .rows → i < p → T (markOf s q (getD (table (rowAt s c) (s .rows)) i 0))
+        sends i h l = subst (λ (r : ℕ). T (markOf s q r)) (sym (getD-table (rowAt s c) (s .rows) i 0 h)) (subst T (sym (parts-at i h)) (lt→ltb i p l))
 
-        keeps : (i : ℕ) → i < s .rows → p ≤ i → T (not (markOf s c t (getD (table (rowAt s c) (s .rows)) i 0)))
+        keeps : (i : ℕ) → i < s .rows → p ≤ i → T (not (markOf s q (getD (table (rowAt s c) (s .rows)) i 0)))
         keeps i h l =
-            subst (λ (r : ℕ). T (not (markOf s c t r))) (sym (getD-table (rowAt s c) (s .rows) i 0 h))
-            (not-T (markOf s c t (rowAt s c i)) (λ y. absurd (omega (arith, ltb→lt i p (subst T (parts-at i h) y)))))
+            subst (λ (r : ℕ). T (not (markOf s q r))) (sym (getD-table (rowAt s c) (s .rows) i 0 h))
+            (not-T (markOf s q (rowAt s c i)) (λ y. absurd (omega (arith, ltb→lt i p (subst T (parts-at i h) y)))))
 
-  pub others-at : (t : Float) → sizeOf s (markOf s c t) + sizeOf s (other (markOf s c t)) ≡ s .rows
-  unfolding sizeOf
-  others-at t = tally-not (markOf s c t) (everyRow s) ∙ length-table (λ r. r) (s .rows)
-
-  pub at-cut : (k : ℕ) → k < countOf s c → AtCut s c k
-  at-cut k h =
-      let t : Float = cutThreshold s c k in
-      let m : Measured t = cut-measured k h in
-      let comp : T (comparable t) = measured-comparable t m in
-      let top : placeOf s c k < s .rows = high k h in
-      let from : (i : ℕ) → i < placeOf s c k → at i ≤ key t = λ i l. omega (arith, rises i (placeOf s c k - 1) (omega arith) (omega arith), cut-lower k h) in
-      let till : (i : ℕ) → placeOf s c k ≤ i → i < s .rows → key t < at i = λ i l g. omega (arith, rises (placeOf s c k) i l g, cut-upper k h) in
-      record {
-        precedes = lower-at k h;
-        in-range = m;
-        parts = parts-at t comp (placeOf s c k) (omega arith) from till;
-        lefts = rows-at t comp (placeOf s c k) (omega arith) from till;
-        rights = omega (arith, others-at t, rows-at t comp (placeOf s c k) (omega arith) from till);
-      }
+pub others-at : (s : Sheet) (q : Question) → sizeOf s (markOf s q) + sizeOf s (other (markOf s q)) ≡ s .rows
+unfolding sizeOf
+others-at s q = tally-not (markOf s q) (everyRow s) ∙ length-table (λ r. r) (s .rows)
 
 pub at-cuts : AtCuts
-at-cuts s sound c k here h = at-cut s sound c here k h
+at-cuts s sound c k here h =
+    let q : Question = cutQuestion s c k in
+    let t : Float = q .threshold in
+    let m : Measured t = cut-measured s sound c here k h in
+    let comp : T (comparable t) = measured-comparable t m in
+    let top : placeOf s c k < s .rows = high s sound c here k h in
+    let from : (i : ℕ) → i < placeOf s c k → key (valueAt s c i) ≤ key t =
+    λ i l. omega (arith, rises s sound c here i (placeOf s c k - 1) (omega arith) (omega arith), cut-lower s sound c here k h) in
+    let till : (i : ℕ) → placeOf s c k ≤ i → i < s .rows → key t < key (valueAt s c i) =
+    λ i l g. omega (arith, rises s sound c here (placeOf s c k) i l g, cut-upper s sound c here k h) in
+    record {
+      precedes = lower-at s sound c here k h;
+      in-range = m;
+      parts = parts-at s sound q here comp (placeOf s c k) (omega arith) from till;
+      lefts = rows-at s sound q here comp (placeOf s c k) (omega arith) from till;
+      rights = omega (arith, others-at s q, rows-at s sound q here comp (placeOf s c k) (omega arith) from till);
+    }
 
 pub ascends : Ascends
 ascends s sound c i j here h k = ascending s sound c here i j h k

@@ -10,19 +10,19 @@ use Rattle.basics.proofs.Choice.{by-test, and-left, and-right}
 use Rattle.sheet.specs.Sheet.{Sheet, orderOf}
 use Rattle.sheet.specs.Sound.{Sound}
 use Rattle.side_scan.specs.declared.SideScan.{SideScan}
-use Rattle.two_sides.specs.declared.Two.{Two}
-use Rattle.side_scan.specs.OneSide.{cleared}
-use Rattle.two_sides.specs.Column.{other, startOf, scanRows, scanColumn}
+use Rattle.leaves_score.specs.declared.two_sides.Two.{Two}
+use Rattle.side_scan.specs.OneSide.{restarted}
+use Rattle.leaves_score.specs.Column.{other, sideAtStart, scanRows, scanColumn}
 use Rattle.leaves_score.specs.Scan.{perfect, scanColumns, startBoth, scanned, sidesOf}
-use Rattle.two_sides.specs.Kept.{through, Alike, Owns, Live}
-use Rattle.two_sides.proofs.Single.{perfected, owns-through}
-use Rattle.two_sides.proofs.Coupled.{both-rows}
+use Rattle.leaves_score.specs.Kept.{through, Alike, Owns, Live}
+use Rattle.leaves_score.proofs.Single.{perfected, owns-through}
+use Rattle.leaves_score.proofs.Coupled.{both-rows}
 use Rattle.leaves_score.proofs.Columns.{side-alike, owns-alike}
-use Rattle.two_sides.proofs.Live.{owns-start, owns-cleared, rows-order, start-live}
+use Rattle.leaves_score.proofs.Live.{owns-start, owns-cleared, rows-order, start-live}
 use Rattle.side_laws.specs.Alone.{columnAlone, columnsAlone, alone, sideAlone, Decoupled, Decouples}
 
-twice : (t : SideScan) → cleared (cleared t) ≡ cleared t
-unfolding cleared
+twice : (t : SideScan) → restarted (restarted t) ≡ restarted t
+unfolding restarted
 twice t = refl
 
 -- ---- the columns
@@ -30,7 +30,7 @@ twice t = refl
 module _ (s : Sheet) (sound : Sound s) (support : ℕ) where
   pub owns-column : (mine : ℕ → Bool) (c : ℕ) (t : SideScan) → Owns s support mine t → Owns s support mine (columnAlone s mine c t)
   unfolding columnAlone
-  owns-column mine c t h = owns-through s c support mine (those mine (orderOf s c)) (cleared t) (owns-cleared s support mine t h)
+  owns-column mine c t h = owns-through s c support mine (those mine (orderOf s c)) (restarted t) (owns-cleared s support mine t h)
 
   pub owns-columns : (mine : ℕ → Bool) (n c : ℕ) (t : SideScan) → Owns s support mine t → Owns s support mine (columnsAlone s mine n c t)
   unfolding columnsAlone
@@ -38,10 +38,10 @@ module _ (s : Sheet) (sound : Sound s) (support : ℕ) where
   owns-columns mine (suc n) c t h = owns-columns mine n (suc c) (columnAlone s mine c t) (owns-column mine c t h)
 
   pub column-perfect : (mine : ℕ → Bool) (c : ℕ) (t : SideScan) → c < s .columns → Owns s support mine t → t .best .score ≡ t .size
-      → cleared (columnAlone s mine c t) ≡ cleared t
+      → restarted (columnAlone s mine c t) ≡ restarted t
   unfolding columnAlone
   column-perfect mine c t h o e =
-      perfected s c (those mine (orderOf s c)) (cleared t) (start-live s sound support mine t o c h) (unfold cleared in e) ∙ twice t
+      perfected s c (those mine (orderOf s c)) (restarted t) (start-live s sound support mine t o c h) (unfold restarted in e) ∙ twice t
 
   -- the next column starts from what crosses
   column-alike : (mine : ℕ → Bool) (c : ℕ) (a b : SideScan) → Alike a b → columnAlone s mine c a ≡ columnAlone s mine c b
@@ -51,10 +51,10 @@ module _ (s : Sheet) (sound : Sound s) (support : ℕ) where
   columns-alike : (mine : ℕ → Bool) (n c : ℕ) (a b : SideScan) → Alike a b → Alike (columnsAlone s mine n c a) (columnsAlone s mine n c b)
   unfolding columnsAlone
   columns-alike mine zero c a b e = e
-  columns-alike mine (suc n) c a b e = ap (λ t. cleared (columnsAlone s mine n (suc c) t)) (column-alike mine c a b e)
+  columns-alike mine (suc n) c a b e = ap (λ t. restarted (columnsAlone s mine n (suc c) t)) (column-alike mine c a b e)
 
   score-alike : (a b : SideScan) → Alike a b → b .best .score ≡ b .size → a .best .score ≡ a .size
-  unfolding cleared
+  unfolding restarted
   score-alike a b e h = ap (λ (t : SideScan). t .best .score) e ∙ h ∙ sym (ap (λ (t : SideScan). t .size) e)
 
   pub columns-perfect : (mine : ℕ → Bool) (n c : ℕ) (t : SideScan) → c + n ≤ s .columns → Owns s support mine t → t .best .score ≡ t .size
@@ -71,14 +71,14 @@ module _ (s : Sheet) (sound : Sound s) (support : ℕ) where
         × Alike ((scanColumn s mark c b) .right) (columnAlone s (other mark) c (b .right))
     unfolding scanColumn columnAlone
     both-column c h b ol or =
-        let start : Two = record { left = cleared (b .left); right = cleared (b .right) } in
+        let start : Two = record { left = restarted (b .left); right = restarted (b .right) } in
         subst
-        (λ xs. Alike ((scanRows s mark c (s .rows) 0 start) .left) (through s c (those mark xs) (cleared (b .left)))
-        × Alike ((scanRows s mark c (s .rows) 0 start) .right) (through s c (those (other mark) xs) (cleared (b .right))))
+        (λ xs. Alike ((scanRows s mark c (s .rows) 0 start) .left) (through s c (those mark xs) (restarted (b .left)))
+        × Alike ((scanRows s mark c (s .rows) 0 start) .right) (through s c (those (other mark) xs) (restarted (b .right))))
         (rows-order s c)
         (both-rows s mark c (s .rows) 0 start
-        (subst (λ xs. Live s (those mark xs) (cleared (b .left))) (sym (rows-order s c)) (start-live s sound support mark (b .left) ol c h))
-        (subst (λ xs. Live s (those (other mark) xs) (cleared (b .right))) (sym (rows-order s c)) (start-live s sound support (other mark) (b .right) or c h)))
+        (subst (λ xs. Live s (those mark xs) (restarted (b .left))) (sym (rows-order s c)) (start-live s sound support mark (b .left) ol c h))
+        (subst (λ xs. Live s (those (other mark) xs) (restarted (b .right))) (sym (rows-order s c)) (start-live s sound support (other mark) (b .right) or c h)))
 
     both-columns : (n c : ℕ) → c + n ≤ s .columns → (b : Two) (x y : SideScan) → Alike (b .left) x → Alike (b .right) y
         → Owns s support mark x → Owns s support (other mark) y
@@ -90,8 +90,8 @@ module _ (s : Sheet) (sound : Sound s) (support : ℕ) where
         let u : SideScan = columnAlone s mark c x in
         let v : SideScan = columnAlone s (other mark) c y in
         let k = both-column c (omega arith) b (owns-alike s support mark (b .left) x ex ox) (owns-alike s support (other mark) (b .right) y ey oy) in
-        let el : Alike (a .left) u = k .0 ∙ ap cleared (column-alike mark c (b .left) x ex) in
-        let er : Alike (a .right) v = k .1 ∙ ap cleared (column-alike (other mark) c (b .right) y ey) in
+        let el : Alike (a .left) u = k .0 ∙ ap restarted (column-alike mark c (b .left) x ex) in
+        let er : Alike (a .right) v = k .1 ∙ ap restarted (column-alike (other mark) c (b .right) y ey) in
         let ou : Owns s support mark u = owns-column mark c x ox in
         let ov : Owns s support (other mark) v = owns-column (other mark) c y oy in
         by-test (λ z. Alike (z .left) (columnsAlone s mark n (suc c) u) × Alike (z .right) (columnsAlone s (other mark) n (suc c) v))
@@ -105,8 +105,8 @@ module _ (s : Sheet) (sound : Sound s) (support : ℕ) where
     pub decoupled-sides : Decoupled s support mark
     unfolding sidesOf scanned sideAlone alone startBoth
     decoupled-sides =
-        let k = both-columns (s .columns) 0 (omega arith) (record { left = startOf s support mark; right = startOf s support (other mark) })
-        (startOf s support mark) (startOf s support (other mark)) refl refl (owns-start s support mark) (owns-start s support (other mark)) in
+        let k = both-columns (s .columns) 0 (omega arith) (record { left = sideAtStart s support mark; right = sideAtStart s support (other mark) })
+        (sideAtStart s support mark) (sideAtStart s support (other mark)) refl refl (owns-start s support mark) (owns-start s support (other mark)) in
         record { left = side-alike _ _ (k .0); right = side-alike _ _ (k .1) }
 
 pub decouples : Decouples

@@ -14,19 +14,19 @@ use Rattle.basics.proofs.Choice.{by-test, decide, either, and-left, and-right, 
 use Rattle.sheet.specs.Sheet.{Sheet, valueOf, labelOf, orderOf}
 use Rattle.sheet.specs.Sound.{Sound}
 use Rattle.side_scan.specs.declared.SideScan.{SideScan}
-use Rattle.cut_score.specs.declared.Best.{Best}
-use Rattle.best_counts.specs.Counts.{noRows}
-use Rattle.cut_score.specs.Scored.{fallen}
-use Rattle.side_scan.specs.OneSide.{nought, cleared, quiet, rowsLeft, leftBest, rightBest, totalOf, supported, takes, splitAt, bestAfter, skipAfter, closes, countRow, onlyCounted, scored}
-use Rattle.two_sides.specs.Column.{sizeOf, ownOf, startOf}
-use Rattle.two_sides.specs.Kept.{through, Owns, Fits, Open}
-use Rattle.two_sides.proofs.Counts.{rows-left}
-use Rattle.two_sides.proofs.Live.{best-left, skip-taken, skip-left, skip-low, step-open, open-counted, open-scored, owns-start, start-live}
+use Rattle.side_scan.specs.declared.cut_score.Best.{Best}
+use Rattle.side_scan.specs.Counts.{peaksOf}
+use Rattle.side_scan.specs.Scored.{fallen, verdictOf, splitBy}
+use Rattle.side_scan.specs.OneSide.{restarted, quiet, rowsLeft, leftBest, rightBest, totalOf, supported, takes, splitAt, bestAfter, skipAfter, closes, countRow, onlyCounted, scored, atStart}
+use Rattle.leaves_score.specs.Column.{sizeOf, ownOf, sideAtStart}
+use Rattle.leaves_score.specs.Kept.{through, Owns, Fits, Open}
+use Rattle.leaves_score.proofs.Counts.{rows-left}
+use Rattle.leaves_score.proofs.Live.{best-left, skip-taken, skip-left, skip-low, step-open, open-counted, open-scored, owns-start, start-live}
 use Rattle.side_laws.specs.Alone.{columnAlone, columnsAlone, alone}
 use Rattle.side_laws.specs.First.{better, firstBest}
 use Rattle.side_laws.specs.Every.{pureFrom, offersFrom, offersOf, allOffers, Offered}
 use Rattle.side_laws.proofs.Tests.{pick-and, pick-and-true, pick-same}
-use Rattle.two_sides.proofs.Single.{shut}
+use Rattle.leaves_score.proofs.Single.{shut}
 use Rattle.side_laws.proofs.Decouple.{owns-column}
 use Rattle.side_laws.proofs.Best.{bare, starts, better-low, first-low, first-append, split-score, next, next-fits, next-total, next-left, total-pure}
 
@@ -58,7 +58,7 @@ module _ (s : Sheet) (c : ℕ) (b0 : Best) where
   offers-none t = refl
 
   pub offers-step : (r : ℕ) (rs : List ℕ) (t : SideScan) → offers t (r ∷ rs) ≡ pick (offered r t) (splitAt t c (valueOf s c r) ∷ on r rs t) (on r rs t)
-  unfolding offers offersFrom onlyCounted countRow splitAt totalOf leftBest rightBest pureFrom supported
+  unfolding offers offersFrom onlyCounted countRow splitBy peaksOf pureFrom
   offers-step r rs t = refl
 
   offers-scored : (r : ℕ) (rs : List ℕ) (t : SideScan) → offers (scored t c (labelOf s r) (valueOf s c r)) rs ≡ offers (next s c r t) rs
@@ -88,7 +88,6 @@ module _ (s : Sheet) (c : ℕ) (b0 : Best) where
 
   -- a remainder of one label, whose cut is not better, has no better cut
   pure-low : (r : ℕ) (rs : List ℕ) (t : SideScan) (n : ℕ) → Fits s (r ∷ rs) t → totalOf t ≤ n → rightBest t ≡ rowsLeft t → Low n (offers (next s c r t) rs)
-  unfolding totalOf
   pure-low r rs t n h g q =
       low-pure rs (next s c r t) n (next-fits s c r rs t h) (omega (arith, rows-left s (r ∷ rs) t h, next-left s c r rs t h))
 
@@ -101,7 +100,6 @@ module _ (s : Sheet) (c : ℕ) (b0 : Best) where
 
   module _ (r : ℕ) (rs : List ℕ) (t : SideScan) (some : 1 ≤ t .least) (h : Open s (r ∷ rs) t) where
     unsupported : t .counted ≡ 0 → T (not (supported t))
-    unfolding supported
     unsupported e =
         not-T (supported t)
         (λ y. absurd (omega (arith, leb→le (t .least) (t .counted) (and-left (leb (t .least) (t .counted)) (leb (t .least) (rowsLeft t)) y))))
@@ -110,7 +108,7 @@ module _ (s : Sheet) (c : ℕ) (b0 : Best) where
     after-offer : (g : Bool) → Started t g → T (not (g && eq (t .previous) (valueOf s c r)))
         → bestAfter t c (valueOf s c r)
         ≡ pick ((g && not (eq (t .previous) (valueOf s c r))) && supported t) (better (t .best) (splitAt t c (valueOf s c r))) (t .best)
-    unfolding bestAfter takes better splitAt
+    unfolding bestAfter verdictOf better splitBy
     after-offer false e n =
         pick-and (supported t) (ltb (t .best .score) (totalOf t)) _ _ ∙ pick-false (supported t) _ _ (unsupported e) ∙ sym (pick-false false _ _ tt)
     after-offer true e n =
@@ -158,7 +156,7 @@ module _ (s : Sheet) (c : ℕ) (b0 : Best) where
 
     closed-keeps : T (not (quiet t (valueOf s c r))) → T (closes t)
         → firstBest (bestAfter t c (valueOf s c r)) (pick (eqb (rightBest t) (rowsLeft t)) [] (offers (next s c r t) rs)) ≡ bestAfter t c (valueOf s c r)
-    unfolding closes firstBest
+    unfolding verdictOf firstBest
     closed-keeps q z =
         by-test (λ x. firstBest (bestAfter t c (valueOf s c r)) x ≡ bestAfter t c (valueOf s c r)) (eqb (rightBest t) (rowsLeft t))
         (λ _. refl)
@@ -167,7 +165,7 @@ module _ (s : Sheet) (c : ℕ) (b0 : Best) where
         (either (eqb (rightBest t) (rowsLeft t)) (leb (rowsLeft t) (skipAfter t)) z (λ y. absurd (T-not (eqb (rightBest t) (rowsLeft t)) n y)) (λ y. y)))))
 
     open-keeps : T (not (closes t)) → pick (eqb (rightBest t) (rowsLeft t)) [] (offers (next s c r t) rs) ≡ offers (next s c r t) rs
-    unfolding closes
+    unfolding verdictOf
     open-keeps n = pick-false (eqb (rightBest t) (rowsLeft t)) _ _ (nor-left (eqb (rightBest t) (rowsLeft t)) (leb (rowsLeft t) (skipAfter t)) n)
 
   pub every-rows : (rs : List ℕ) (t : SideScan) → 1 ≤ t .least → T (not (t .closed)) → Open s rs t → Started t (t .started)
@@ -187,11 +185,11 @@ module _ (s : Sheet) (c : ℕ) (b0 : Best) where
 
 module _ (s : Sheet) (support : ℕ) (mine : ℕ → Bool) where
   abbrev pub leafFirst : Best
-  leafFirst = (startOf s support mine) .best
+  leafFirst = (sideAtStart s support mine) .best
 
   -- the cuts of a column are the same whatever was best before
-  pub bare-start : (t : SideScan) → Owns s support mine t → bare leafFirst (cleared t) ≡ startOf s support mine
-  unfolding cleared startOf
+  pub bare-start : (t : SideScan) → Owns s support mine t → bare leafFirst (restarted t) ≡ sideAtStart s support mine
+  unfolding restarted sideAtStart
   bare-start t o =
       ap (λ (x : List ℕ). made x (t .size) (t .labels) (t .least)) (o .own-is)
       ∙ ap (λ (x : ℕ). made (ownOf s mine) x (t .labels) (t .least)) (o .size-is)
@@ -199,28 +197,15 @@ module _ (s : Sheet) (support : ℕ) (mine : ℕ → Bool) where
       ∙ ap (λ (x : ℕ). made (ownOf s mine) (sizeOf s mine) (s .labels) x) (o .least-is)
     where
       made : List ℕ → ℕ → ℕ → ℕ → SideScan
-      made own size labels least =
-          record {
-            own = own;
-            size = size;
-            labels = labels;
-            least = least;
-            best = (startOf s support mine) .best;
-            seen = noRows;
-            counted = 0;
-            skip = 0;
-            closed = false;
-            started = false;
-            previous = nought;
-          }
+      made own size labels least = atStart own size labels least ((sideAtStart s support mine) .best)
 
 module _ (s : Sheet) (sound : Sound s) (support : ℕ) (mine : ℕ → Bool) where
   -- what is best before has no part in what a column offers
   pub column-offers : (c : ℕ) (t : SideScan) → c < s .columns → Owns s support mine t
-      → (columnAlone s mine c t) .best ≡ firstBest (t .best) (offers s c (leafFirst s support mine) (cleared t) (those mine (orderOf s c)))
-  unfolding columnAlone cleared
+      → (columnAlone s mine c t) .best ≡ firstBest (t .best) (offers s c (leafFirst s support mine) (restarted t) (those mine (orderOf s c)))
+  unfolding columnAlone restarted
   column-offers c t h o =
-      every-rows s c (leafFirst s support mine) (those mine (orderOf s c)) (cleared t) (omega (arith, o .least-is)) tt (start-live s sound support mine t o c h tt) refl
+      every-rows s c (leafFirst s support mine) (those mine (orderOf s c)) (restarted t) (omega (arith, o .least-is)) tt (start-live s sound support mine t o c h tt) refl
 
   column-every : (c : ℕ) (t : SideScan) → c < s .columns → Owns s support mine t → (columnAlone s mine c t) .best ≡ firstBest (t .best) (offersOf s support mine c)
   unfolding offersOf offers
@@ -238,4 +223,4 @@ module _ (s : Sheet) (sound : Sound s) (support : ℕ) (mine : ℕ → Bool) whe
 
 pub offered-best : Offered
 unfolding alone
-offered-best s sound support mine = columns-every s sound support mine (s .columns) 0 (startOf s support mine) (omega arith) (owns-start s support mine)
+offered-best s sound support mine = columns-every s sound support mine (s .columns) 0 (sideAtStart s support mine) (omega arith) (owns-start s support mine)

@@ -9,12 +9,12 @@ use lib.Ieee.{Float, lt, eq}
 use Rattle.basics.specs.Lists.{All, table, those}
 use Rattle.basics.proofs.Choice.{by-test}
 use Rattle.basics.proofs.Lists.{all-those}
-use Rattle.order.specs.Order.{key, comparable}
-use Rattle.order.proofs.Order.{eq-key, le-key, →lt}
+use Rattle.threshold.specs.Order.{key, comparable}
+use Rattle.threshold.proofs.Keys.{eq-key, le-key, →lt}
 use Rattle.threshold.specs.Threshold.{thresholdOf, goesLeft}
 use Rattle.threshold.specs.Laws.{Measured}
 use Rattle.threshold.proofs.Law.{measured-comparable}
-use Rattle.threshold.proofs.Parting.{from-lower, below-upper, in-range}
+use Rattle.threshold.proofs.Ways.{from-lower, below-upper, in-range}
 use Rattle.sheet.specs.Sheet.{Sheet, valueOf, valueAt, rowAt, orderOf}
 use Rattle.sheet.specs.Sound.{Sound}
 

@@ -13,10 +13,12 @@ use Rattle.basics.specs.Lists.{All}
 use Rattle.basics.proofs.Choice.{by-test, and-both, pick-true}
 use Rattle.sheet.specs.Sheet.{Sheet, valueOf}
 use Rattle.side_scan.specs.declared.SideScan.{SideScan}
-use Rattle.cut_score.specs.declared.Best.{Best}
+use Rattle.side_scan.specs.declared.cut_score.Best.{Best}
+use Rattle.side_scan.specs.Counts.{peaksOf}
+use Rattle.side_scan.specs.Scored.{splitBy}
 use Rattle.side_scan.specs.OneSide.{rowsLeft, leftBest, rightBest, totalOf, supported, splitAt, countRow, onlyCounted}
-use Rattle.two_sides.specs.Kept.{Fits}
-use Rattle.two_sides.proofs.Counts.{rows-left}
+use Rattle.leaves_score.specs.Kept.{Fits}
+use Rattle.leaves_score.proofs.Counts.{rows-left}
 use Rattle.side_laws.specs.First.{cutsFrom, better, firstBest}
 use Rattle.side_laws.specs.Every.{pureFrom}
 use Rattle.side_laws.proofs.Best.{bare, starts, next, next-fits, next-left, total-pure, split-score, better-other, first-low}
@@ -33,7 +35,7 @@ module _ (s : Sheet) (c : ℕ) (b0 : Best) where
 
   pub cuts-step : (r : ℕ) (rs : List ℕ) (t : SideScan)
       → cuts t (r ∷ rs) ≡ pick (starts t (valueOf s c r)) (splitAt t c (valueOf s c r) ∷ cuts (next s c r t) rs) (cuts (next s c r t) rs)
-  unfolding cuts cutsFrom onlyCounted countRow splitAt totalOf leftBest rightBest
+  unfolding cuts cutsFrom onlyCounted countRow splitBy peaksOf
   cuts-step r rs t = refl
 
   -- ---- past a pure remainder no cut is better
@@ -58,7 +60,6 @@ module _ (s : Sheet) (c : ℕ) (b0 : Best) where
   module _ (r : ℕ) (rs : List ℕ) (t : SideScan) (small : t .least ≤ 1) (h : Fits s (r ∷ rs) t)
       (rest : (b : Best) → firstBest b (offers s c b0 (next s c r t) rs) ≡ firstBest b (cuts (next s c r t) rs)) where
     backed : 1 ≤ t .counted → T (supported t)
-    unfolding supported
     backed g =
         and-both (leb (t .least) (t .counted)) (leb (t .least) (rowsLeft t)) (le→leb (t .least) (t .counted) (omega arith))
         (le→leb (t .least) (rowsLeft t) (omega (arith, rows-left s (r ∷ rs) t h)))
@@ -66,7 +67,7 @@ module _ (s : Sheet) (c : ℕ) (b0 : Best) where
     -- the cut at hand being no better than b
     from-here : (b : Best) → totalOf t ≤ b .score
         → firstBest b (pick (eqb (rightBest t) (rowsLeft t)) [] (offers s c b0 (next s c r t) rs)) ≡ firstBest b (cuts (next s c r t) rs)
-    unfolding firstBest totalOf
+    unfolding firstBest
     from-here b g =
         by-test (λ z. firstBest b z ≡ firstBest b (cuts (next s c r t) rs)) (eqb (rightBest t) (rowsLeft t))
         (λ y. sym (first-low b (cuts (next s c r t) rs)

@@ -7,48 +7,55 @@ use lib.Dec.{T, leb, leb→le, le→leb}
 use lib.Ieee.{Float}
 use Rattle.basics.specs.Choice.{bit}
 use Rattle.basics.proofs.Choice.{decide, reach, bit-true, bit-false, bit-le}
-use Rattle.order.specs.Order.{key, comparable}
+use Rattle.threshold.specs.Order.{key, comparable}
 use Rattle.threshold.proofs.Law.{measured-comparable}
 use Rattle.sheet.specs.Sheet.{Sheet, countOf, placeOf}
 use Rattle.sheet.specs.Sound.{Sound}
-use Rattle.two_sides.specs.Column.{other}
-use Rattle.leaves_score.specs.Root.{cutThreshold, markOf, sidesAt, errorsAt}
+use Rattle.leaves_score.specs.Column.{other}
+use Rattle.leaves_score.specs.Root.{cutThreshold, cutQuestion, markOf, sidesAt, errorsAt}
 use Rattle.side_laws.specs.Opt.{Opt}
 use Rattle.side_laws.specs.Root.{AtCut, Moved, Moves}
 use Rattle.side_laws.proofs.Tests.{bit-not}
 use Rattle.side_laws.proofs.Fair.{keyOf, goes}
 use Rattle.side_laws.proofs.Mistakes.{grows}
 use Rattle.side_laws.proofs.Optimal.{optimal}
-use Rattle.side_laws.proofs.Cuts.{rises, ascending, cut-lower, cut-upper, at-cut}
+use Rattle.side_laws.proofs.Cuts.{rises, ascending, cut-lower, cut-upper, at-cuts}
 
--- ---- thresholds in order send more rows left
-module _ (s : Sheet) (sound : Sound s) (c : ℕ) (here : c < s .columns) (t u : Float) (i : T (comparable t)) (j : T (comparable u)) (h : key t ≤ key u) where
-  pub more-left : (r : ℕ) → r < s .rows → bit (markOf s c t r) ≤ bit (markOf s c u r)
+-- ---- questions of one column with thresholds in order send more rows left
+module _ (s : Sheet) (sound : Sound s) (c : ℕ) (here : c < s .columns) (i j : ℕ) (x : T (comparable (cutThreshold s c i))) (y : T (comparable (cutThreshold s c j)))
+    (h : key (cutThreshold s c i) ≤ key (cutThreshold s c j)) where
+  abbrev t : Float
+  t = cutThreshold s c i
+
+  abbrev u : Float
+  u = cutThreshold s c j
+
+  more-left : (r : ℕ) → r < s .rows → bit (markOf s (cutQuestion s c i) r) ≤ bit (markOf s (cutQuestion s c j) r)
   unfolding markOf
   more-left r k =
       decide (leb (keyOf s c r) (key t))
-      (λ y. omega (
+      (λ z. omega (
         arith,
-        ap bit (goes s sound c here t i r k),
-        ap bit (goes s sound c here u j r k),
+        ap bit (goes s sound c here t x r k),
+        ap bit (goes s sound c here u y r k),
         bit-le (leb (keyOf s c r) (key t)),
-        bit-true (leb (keyOf s c r) (key u)) (le→leb (keyOf s c r) (key u) (omega (arith, leb→le (keyOf s c r) (key t) y))),
+        bit-true (leb (keyOf s c r) (key u)) (le→leb (keyOf s c r) (key u) (omega (arith, leb→le (keyOf s c r) (key t) z))),
       ))
-      (λ n. omega (arith, ap bit (goes s sound c here t i r k), bit-false (leb (keyOf s c r) (key t)) n))
+      (λ n. omega (arith, ap bit (goes s sound c here t x r k), bit-false (leb (keyOf s c r) (key t)) n))
 
-  pub less-right : (r : ℕ) → r < s .rows → bit (other (markOf s c u) r) ≤ bit (other (markOf s c t) r)
-  less-right r k = bit-not (markOf s c t r) (markOf s c u r) (more-left r k)
+  less-right : (r : ℕ) → r < s .rows → bit (other (markOf s (cutQuestion s c j)) r) ≤ bit (other (markOf s (cutQuestion s c i)) r)
+  less-right r k = bit-not (markOf s (cutQuestion s c i) r) (markOf s (cutQuestion s c j) r) (more-left r k)
 
 -- ---- two cuts
 
 module _ (s : Sheet) (sound : Sound s) (support : ℕ) (small : support ≤ 1) (c : ℕ) (here : c < s .columns) where
-  pub left-opt : (k : ℕ) → Opt s (markOf s c (cutThreshold s c k)) ((errorsAt s support c k) .0)
+  pub left-opt : (k : ℕ) → Opt s (markOf s (cutQuestion s c k)) ((errorsAt s support c k) .0)
   unfolding errorsAt sidesAt
-  left-opt k = optimal s sound support small (markOf s c (cutThreshold s c k)) .left
+  left-opt k = optimal s sound support small (markOf s (cutQuestion s c k)) .left
 
-  pub right-opt : (k : ℕ) → Opt s (other (markOf s c (cutThreshold s c k))) ((errorsAt s support c k) .1)
+  pub right-opt : (k : ℕ) → Opt s (other (markOf s (cutQuestion s c k))) ((errorsAt s support c k) .1)
   unfolding errorsAt sidesAt
-  right-opt k = optimal s sound support small (markOf s c (cutThreshold s c k)) .right
+  right-opt k = optimal s sound support small (markOf s (cutQuestion s c k)) .right
 
   module _ (i j : ℕ) (h : i ≤ j) (k : j < countOf s c) where
     places : placeOf s c i ≤ placeOf s c j
@@ -67,14 +74,14 @@ module _ (s : Sheet) (sound : Sound s) (support : ℕ) (small : support ≤ 1) (
 
     pub moved : Moved s support c i j
     moved =
-        let a : AtCut s c i = at-cut s sound c here i (omega arith) in
-        let b : AtCut s c j = at-cut s sound c here j k in
+        let a : AtCut s c i = at-cuts s sound c i here (omega arith) in
+        let b : AtCut s c j = at-cuts s sound c j here k in
         let x : T (comparable (cutThreshold s c i)) = measured-comparable (cutThreshold s c i) (a .in-range) in
         let y : T (comparable (cutThreshold s c j)) = measured-comparable (cutThreshold s c j) (b .in-range) in
-        let l = grows s (markOf s c (cutThreshold s c i)) (markOf s c (cutThreshold s c j))
-        (more-left s sound c here (cutThreshold s c i) (cutThreshold s c j) x y thresholds) _ _ (left-opt i) (left-opt j) in
-        let r = grows s (other (markOf s c (cutThreshold s c j))) (other (markOf s c (cutThreshold s c i)))
-        (less-right s sound c here (cutThreshold s c i) (cutThreshold s c j) x y thresholds) _ _ (right-opt j) (right-opt i) in
+        let l = grows s (markOf s (cutQuestion s c i)) (markOf s (cutQuestion s c j))
+        (more-left s sound c here i j x y thresholds) _ _ (left-opt i) (left-opt j) in
+        let r = grows s (other (markOf s (cutQuestion s c j))) (other (markOf s (cutQuestion s c i)))
+        (less-right s sound c here i j x y thresholds) _ _ (right-opt j) (right-opt i) in
         record {
           ascends = places;
           lefts = l .0;

@@ -5,16 +5,17 @@ use Prim.Native.Nat.{ℕ, _+_, _≤_, _<_}
 use native.Mathlib.Omega.{arith}
 use mathlib.Core.Bool.{Bool, true, false, not, _&&_}
 use lib.Dec.{eqb}
-use lib.Ieee.{Float}
 use Rattle.basics.specs.Choice.{pick, bit}
 use Rattle.basics.proofs.Lists.{tally-parts}
-use Rattle.threshold.specs.Threshold.{goesLeft}
 use Rattle.threshold.proofs.Law.{measured-comparable}
-use Rattle.sheet.specs.Sheet.{Sheet, valueOf, labelOf, everyRow}
+use Rattle.sheet.specs.Sheet.{Sheet, labelOf, everyRow}
 use Rattle.tree.specs.Answer.{sideError}
+use Rattle.tree.specs.declared.Leaf as leaf
+use Rattle.tree.specs.declared.Question.{Question}
 use Rattle.tree.specs.declared.Side.{Side}
 use Rattle.tree.specs.declared.Side.the-variants.{Leaf, Split}
-use Rattle.two_sides.specs.Column.{other, sizeOf}
+use Rattle.leaves_score.specs.Column.{other, sizeOf}
+use Rattle.leaves_score.specs.Root.{markOf}
 use Rattle.leaves_score.specs.Scan.{sidesOf}
 use Rattle.side_laws.specs.Told.{leftPart, rightPart, wrongOf, Told}
 use Rattle.side_laws.specs.Opt.{answer, mistakes, Proper, Grows, Mistaken}
@@ -30,24 +31,25 @@ split-bit true false l a b = omega arith
 split-bit false m l a b = omega arith
 
 module _ (s : Sheet) (mine : ℕ → Bool) where
-  pub leaf-mistakes : (l e : ℕ) → mistakes s mine (Leaf l e) ≡ wrongOf s mine l
+  pub leaf-mistakes : (l : leaf.Leaf) → mistakes s mine (Leaf l) ≡ wrongOf s mine (l .label)
   unfolding mistakes wrongOf answer
-  leaf-mistakes l e = refl
+  leaf-mistakes l = refl
 
-  pub split-mistakes : (c : ℕ) (t : Float) (a b x y : ℕ) → mistakes s mine (Split c t a b x y) ≡ wrongOf s (leftPart s mine c t) a + wrongOf s (rightPart s mine c t) b
+  pub split-mistakes : (q : Question) (a b : leaf.Leaf)
+      → mistakes s mine (Split q a b) ≡ wrongOf s (leftPart s mine q) (a .label) + wrongOf s (rightPart s mine q) (b .label)
   unfolding mistakes wrongOf answer
-  split-mistakes c t a b x y =
-      tally-parts (λ r. leftPart s mine c t r && not (eqb (labelOf s r) a)) (λ r. rightPart s mine c t r && not (eqb (labelOf s r) b))
-      (λ r. mine r && not (eqb (labelOf s r) (pick (goesLeft (valueOf s c r) t) a b)))
-      (λ r. split-bit (mine r) (goesLeft (valueOf s c r) t) (labelOf s r) a b) (everyRow s)
+  split-mistakes q a b =
+      tally-parts (λ r. leftPart s mine q r && not (eqb (labelOf s r) (a .label))) (λ r. rightPart s mine q r && not (eqb (labelOf s r) (b .label)))
+      (λ r. mine r && not (eqb (labelOf s r) (pick (markOf s q r) (a .label) (b .label))))
+      (λ r. split-bit (mine r) (markOf s q r) (labelOf s r) (a .label) (b .label)) (everyRow s)
 
   pub told-mistakes : (support : ℕ) (x : Side) → Told s support mine x → mistakes s mine x ≡ sideError x
-  told-mistakes support (Leaf l e) h = leaf-mistakes l e ∙ sym (h .1)
-  told-mistakes support (Split c t a b x y) h = omega (arith, split-mistakes c t a b x y, h .lost-is, h .missed-is)
+  told-mistakes support (Leaf l) h = leaf-mistakes l ∙ sym (h .error-is)
+  told-mistakes support (Split q a b) h = omega (arith, split-mistakes q a b, h .left-told .error-is, h .right-told .error-is)
 
   pub told-proper : (support : ℕ) (x : Side) → Told s support mine x → Proper s x
-  told-proper support (Leaf l e) h = h .0
-  told-proper support (Split c t a b x y) h = (h .column-in, h .left-in, h .right-in, measured-comparable t (h .threshold-in))
+  told-proper support (Leaf l) h = h .label-in
+  told-proper support (Split q a b) h = (h .column-in, h .left-told .label-in, h .right-told .label-in, measured-comparable (q .threshold) (h .threshold-in))
 
 pub mistaken : Mistaken
 mistaken s sound support mark =

@@ -11,24 +11,25 @@ use lib.Dec.{T, eqb, eqb→eq}
 use Rattle.basics.specs.Lists.{All, those}
 use Rattle.basics.proofs.Choice.{by-test, order, reach}
 use Rattle.basics.proofs.Lists.{all-map}
-use Rattle.order.specs.Order.{key}
+use Rattle.threshold.specs.Order.{key}
 use Rattle.sheet.specs.Sheet.{Sheet, valueOf, labelOf, orderOf}
 use Rattle.sheet.specs.Sound.{Sound}
 use Rattle.tree.specs.Answer.{sideError}
 use Rattle.tree.specs.declared.Side.{Side}
 use Rattle.tree.specs.declared.Side.the-variants.{Leaf, Split}
 use Rattle.side_scan.specs.declared.SideScan.{SideScan}
-use Rattle.cut_score.specs.declared.Best.{Best}
-use Rattle.cut_score.specs.Scored.{fallen}
-use Rattle.side_scan.specs.OneSide.{cleared, before, later, leftBest, rightBest, totalOf, splitAt, countRow, onlyCounted}
-use Rattle.two_sides.specs.Column.{other, sizeOf, ownOf, startOf}
-use Rattle.two_sides.specs.Kept.{Owns, Fits}
-use Rattle.best_counts.proofs.Commonest.{most}
-use Rattle.two_sides.proofs.Counts.{fits-step, later-is}
-use Rattle.two_sides.proofs.Live.{own-at, owns-start, owns-cleared, start-fits}
+use Rattle.side_scan.specs.declared.cut_score.Best.{Best}
+use Rattle.side_scan.specs.Scored.{fallen}
+use Rattle.side_scan.specs.Counts.{peaksOf}
+use Rattle.side_scan.specs.OneSide.{restarted, before, later, leftBest, rightBest, totalOf, splitAt, countRow, onlyCounted}
+use Rattle.leaves_score.specs.Column.{other, sizeOf, ownOf, sideAtStart}
+use Rattle.leaves_score.specs.Kept.{Owns, Fits}
+use Rattle.side_scan.proofs.Commonest.{most}
+use Rattle.leaves_score.proofs.Counts.{fits-step, later-is}
+use Rattle.leaves_score.proofs.Live.{own-at, owns-start, owns-cleared, start-fits}
 use Rattle.side_laws.specs.Alone.{columnAlone, columnsAlone, alone, sideAlone}
 use Rattle.side_laws.specs.First.{better, firstBest}
-use Rattle.side_laws.specs.Opt.{mistakes, Proper, Opt, Optimal}
+use Rattle.side_laws.specs.Opt.{mistakes, Proper, Opt, SideOptimal}
 use Rattle.side_laws.proofs.Tests.{not-not→}
 use Rattle.side_laws.proofs.Decouple.{owns-column, decouples}
 use Rattle.side_laws.proofs.Tallies.{tally-not}
@@ -87,15 +88,14 @@ module _ (s : Sheet) (sound : Sound s) (support : ℕ) (mine : ℕ → Bool) whe
           )
 
       left-best : before t a ≤ leftBest t
-      unfolding leftBest
+      unfolding peaksOf
       left-best = most (before t) (t .labels) a a-in
 
       right-best : later t b ≤ rightBest t
-      unfolding rightBest
+      unfolding peaksOf
       right-best = most (later t) (t .labels) b b-in
 
       at-total : All (λ r. keyOf s c r ≤ k) done → All (λ r. k < keyOf s c r) rest → sizeOf s mine ≤ asked s mine c k a b + totalOf t
-      unfolding totalOf
       at-total low high = omega (arith, at-cut low high, left-best, right-best)
 
     -- no row before, or none to come: the question is as good as a leaf
@@ -198,8 +198,8 @@ module _ (s : Sheet) (sound : Sound s) (support : ℕ) (small : support ≤ 1) (
       → sizeOf s mine ≤ asked s mine c k a b + (columnAlone s mine c t) .best .score
   column-low c k a b t h ha hb o g =
       rw (column-first s sound support small mine c t h o g)
-      (question-low s sound support mine c k a b h ha hb ((startOf s support mine) .best) (those mine (orderOf s c)) [] (cleared t) (t .best)
-      (past-cleared s sound mine c h t) (start-fits s sound support mine t o c h) (owns-cleared s support mine t o) (unfold cleared in tt) g)
+      (question-low s sound support mine c k a b h ha hb ((sideAtStart s support mine) .best) (those mine (orderOf s c)) [] (restarted t) (t .best)
+      (past-cleared s sound mine c h t) (start-fits s sound support mine t o c h) (owns-cleared s support mine t o) (unfold restarted in tt) g)
 
   columns-low : (n d c k a b : ℕ) (t : SideScan) → d + n ≤ s .columns → d ≤ c → c < d + n → a < s .labels → b < s .labels → Owns s support mine t
       → leafCount s mine ≤ t .best .score → sizeOf s mine ≤ asked s mine c k a b + (columnsAlone s mine n d t) .best .score
@@ -220,24 +220,25 @@ module _ (s : Sheet) (sound : Sound s) (support : ℕ) (small : support ≤ 1) (
   -- no leaf and no question gets more right
   side-best : (x : Side) → Proper s x → sizeOf s mine ≤ mistakes s mine x + (alone s support mine) .best .score
   unfolding alone
-  side-best (Leaf l e) h =
+  side-best (Leaf leaf) h =
+      let l : ℕ = leaf .label in
       omega (
         arith,
-        leaf-mistakes s mine l e,
+        leaf-mistakes s mine leaf,
         wrong-rows s mine l,
-        own-at s support mine (startOf s support mine) (owns-start s support mine) l (omega (arith, sound .limited .labels-most)),
-        leaf-most s sound support mine (startOf s support mine) (owns-start s support mine) l h,
+        own-at s support mine (sideAtStart s support mine) (owns-start s support mine) l (omega (arith, sound .limited .labels-most)),
+        leaf-most s sound support mine (sideAtStart s support mine) (owns-start s support mine) l h,
         start-score s sound support small mine,
-        columns-ge s sound support small mine (s .columns) 0 (startOf s support mine) (omega arith) (owns-start s support mine)
+        columns-ge s sound support small mine (s .columns) 0 (sideAtStart s support mine) (omega arith) (owns-start s support mine)
             (omega (arith, start-score s sound support small mine)),
       )
-  side-best (Split c t a b x y) h =
+  side-best (Split q a b) h =
       omega (
         arith,
-        split-mistakes s mine c t a b x y,
-        left-wrong-is s sound mine c (h .0) t (h .3) a,
-        right-wrong-is s sound mine c (h .0) t (h .3) b,
-        columns-low (s .columns) 0 c (key t) a b (startOf s support mine) (omega arith) (omega arith) (omega (arith, h .0)) (h .1) (h .2) (owns-start s support mine)
+        split-mistakes s mine q a b,
+        left-wrong-is s sound mine q (h .0) (h .3) (a .label),
+        right-wrong-is s sound mine q (h .0) (h .3) (b .label),
+        columns-low (s .columns) 0 (q .column) (key (q .threshold)) (a .label) (b .label) (sideAtStart s support mine) (omega arith) (omega arith) (omega (arith, h .0)) (h .1) (h .2) (owns-start s support mine)
             (omega (arith, start-score s sound support small mine)),
       )
 
@@ -251,7 +252,7 @@ module _ (s : Sheet) (sound : Sound s) (support : ℕ) (small : support ≤ 1) (
         least = λ x h. omega (arith, side-best x h, errors-add-up s sound support mine);
       }
 
-pub optimal : Optimal
+pub optimal : SideOptimal
 optimal s sound support small mark =
     let d = decouples s sound support mark in
     record {

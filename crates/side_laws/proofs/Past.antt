@@ -11,13 +11,13 @@ use lib.Dec.{T, not-T, leb, eqb, leb→le, le→leb}
 use Rattle.basics.specs.Lists.{All, tally, those}
 use Rattle.basics.proofs.Lists.{all-map, all-those, tally-those}
 use Rattle.basics.proofs.Choice.{not-not, bit-and-true, bit-and-false}
-use Rattle.order.specs.Order.{key}
+use Rattle.threshold.specs.Order.{key}
 use Rattle.sheet.specs.Limits.{mostLabels}
 use Rattle.sheet.specs.Sheet.{Sheet, valueOf, labelOf, everyRow, orderOf}
 use Rattle.sheet.specs.Sound.{Sound}
 use Rattle.side_scan.specs.declared.SideScan.{SideScan}
-use Rattle.side_scan.specs.OneSide.{cleared, raised}
-use Rattle.two_sides.proofs.Counts.{raised-at, none-at}
+use Rattle.side_scan.specs.OneSide.{restarted, raised}
+use Rattle.leaves_score.proofs.Counts.{raised-at, none-at}
 use Rattle.side_laws.proofs.Fair.{keyOf, Sorted, inside, sorted, sorted-those}
 
 -- ---- a test that divides two lists
@@ -120,8 +120,8 @@ module _ (s : Sheet) (mine : ℕ → Bool) (c k : ℕ) where
 -- ---- a column's start
 
 pub past-cleared : (s : Sheet) (sound : Sound s) (mine : ℕ → Bool) (c : ℕ) → c < s .columns → (t : SideScan)
-    → Past s mine c [] (those mine (orderOf s c)) (cleared t)
-unfolding cleared
+    → Past s mine c [] (those mine (orderOf s c)) (restarted t)
+unfolding restarted
 past-cleared s sound mine c h t =
     record {
       parts = λ q. omega (arith, tally-those mine q (orderOf s c), sound .column c h .each-once (λ r. mine r && q r));

@@ -12,18 +12,19 @@ use Rattle.basics.specs.Choice.{pick, bit}
 use Rattle.basics.specs.Lists.{tally, table}
 use Rattle.basics.proofs.Choice.{decide, order, bit-true, bit-false, bit-le}
 use Rattle.basics.proofs.Lists.{all-at, all-map, tally-none, tally-parts, getD-table, length-table}
-use Rattle.order.specs.Order.{key, comparable}
+use Rattle.threshold.specs.Order.{key, comparable}
 use Rattle.sheet.specs.Sheet.{Sheet, labelOf, rowAt, valueAt, countOf, placeOf, everyRow, orderOf}
 use Rattle.sheet.specs.Sound.{Sound}
+use Rattle.tree.specs.declared.Question.{Question}
 use Rattle.tree.specs.declared.Side.{Side}
-use Rattle.two_sides.specs.Column.{other, sizeOf}
-use Rattle.leaves_score.specs.Root.{cutThreshold, markOf, sidesAt, errorsAt}
+use Rattle.leaves_score.specs.Column.{other, sizeOf}
+use Rattle.leaves_score.specs.Root.{cutQuestion, markOf, sidesAt, errorsAt}
 use Rattle.side_laws.specs.Opt.{answer, mistakes}
 use Rattle.side_laws.specs.Root.{SameRows, AnyRoot, rootMistakes, CutMistakes, RootLeast, OneSide}
 use Rattle.side_laws.proofs.Tallies.{rows-alike}
 use Rattle.side_laws.proofs.Fair.{keyOf, Sorted, sorted, goes}
 use Rattle.side_laws.proofs.Mistakes.{mistaken}
-use Rattle.side_laws.proofs.Cuts.{rise-cut, parts-at, others-at, at-cut}
+use Rattle.side_laws.proofs.Cuts.{rise-cut, parts-at, others-at, at-cuts}
 use Rattle.side_laws.proofs.Metric.{left-opt, right-opt}
 
 -- ---- a sorted list parts at a key
@@ -72,52 +73,59 @@ module _ (s : Sheet) (sound : Sound s) (c : ℕ) (here : c < s .columns) where
       (omega (arith, sound .column c here .each-once (λ x. eqb x r), table-has (λ x. eqb x r) (λ x. x) (s .rows) r h (eqb-refl r))) in
       (z .0, z .1, eqb→eq (rowAt s c (z .0)) r (z .2))
 
-  -- ---- any root threshold
+-- ---- any root question
 
-  module _ (t : Float) (comp : T (comparable t)) (some : 1 ≤ sizeOf s (markOf s c t)) (others : 1 ≤ sizeOf s (other (markOf s c t))) where
-    abbrev count : ℕ
-    count = sizeOf s (markOf s c t)
+module _ (s : Sheet) (sound : Sound s) (q : Question) (here : q .column < s .columns) (comp : T (comparable (q .threshold)))
+    (some : 1 ≤ sizeOf s (markOf s q)) (others : 1 ≤ sizeOf s (other (markOf s q))) where
+  abbrev c : ℕ
+  c = q .column
 
-    count-is : tally (λ r. leb (keyOf s c r) (key t)) (orderOf s c) ≡ count
-    count-is =
-        sound .column c here .each-once (λ r. leb (keyOf s c r) (key t))
-        ∙ unfold sizeOf markOf in rows-alike s (λ r. leb (keyOf s c r) (key t)) (markOf s c t) (λ r h. ap bit (sym (goes s sound c here t comp r h)))
+  abbrev t : Float
+  t = q .threshold
 
-    row-is : (i : ℕ) → i < s .rows → keyOf s c (getD (orderOf s c) i 0) ≡ key (valueAt s c i)
-    row-is i h = unfold orderOf valueAt in ap (keyOf s c) (getD-table (rowAt s c) (s .rows) i 0 h)
+  abbrev count : ℕ
+  count = sizeOf s (markOf s q)
 
-    order-long : length (orderOf s c) ≡ s .rows
-    order-long = unfold orderOf in length-table (rowAt s c) (s .rows)
+  count-is : tally (λ r. leb (keyOf s c r) (key t)) (orderOf s c) ≡ count
+  count-is =
+      sound .column c here .each-once (λ r. leb (keyOf s c r) (key t))
+      ∙ unfold sizeOf markOf in rows-alike s (λ r. leb (keyOf s c r) (key t)) (markOf s q) (λ r h. ap bit (sym (goes s sound c here t comp r h)))
 
-    inside : count < s .rows
-    inside = omega (arith, others-at s sound c here t)
+  row-is : (i : ℕ) → i < s .rows → keyOf s c (getD (orderOf s c) i 0) ≡ key (valueAt s c i)
+  row-is i h = unfold orderOf valueAt in ap (keyOf s c) (getD-table (rowAt s c) (s .rows) i 0 h)
 
-    from : (i : ℕ) → i < count → key (valueAt s c i) ≤ key t
-    from i h = omega (arith, row-is i (omega (arith, inside)), till (keyOf s c) (key t) (orderOf s c) i (sorted s sound c here) (omega (arith, count-is)))
+  order-long : length (orderOf s c) ≡ s .rows
+  order-long = unfold orderOf in length-table (rowAt s c) (s .rows)
 
-    upon : (i : ℕ) → count ≤ i → i < s .rows → key t < key (valueAt s c i)
-    upon i h k = omega (arith, row-is i k, past (keyOf s c) (key t) (orderOf s c) i (sorted s sound c here) (omega (arith, count-is)) (omega (arith, order-long)))
+  inside : count < s .rows
+  inside = omega (arith, others-at s q)
 
-    cut : (k : ℕ) × (k < countOf s c) × (placeOf s c k ≡ suc (count - 1))
-    cut =
-        rise-cut s sound c here (count - 1) (omega (arith, inside))
-        (omega (arith, from (count - 1) (omega arith), upon (suc (count - 1)) (omega arith) (omega (arith, inside))))
+  from : (i : ℕ) → i < count → key (valueAt s c i) ≤ key t
+  from i h = omega (arith, row-is i (omega (arith, inside)), till (keyOf s c) (key t) (orderOf s c) i (sorted s sound c here) (omega (arith, count-is)))
 
-    pub as-cut : (k : ℕ) × (k < countOf s c) × SameRows s c t (cutThreshold s c k)
-    as-cut = (cut .0, cut .1, same)
-      where
-        place-is : placeOf s c (cut .0) ≡ count
-        place-is = omega (arith, cut .2)
+  upon : (i : ℕ) → count ≤ i → i < s .rows → key t < key (valueAt s c i)
+  upon i h k = omega (arith, row-is i k, past (keyOf s c) (key t) (orderOf s c) i (sorted s sound c here) (omega (arith, count-is)) (omega (arith, order-long)))
 
-        same : SameRows s c t (cutThreshold s c (cut .0))
-        same r h =
-            let z = place-of r h in
-            subst (λ (x : ℕ). markOf s c t x ≡ markOf s c (cutThreshold s c (cut .0)) x) (z .2)
-            (parts-at s sound c here t comp count (omega (arith, inside)) from upon (z .0) (z .1)
-            ∙ ap (λ (p : ℕ). ltb (z .0) p) (sym place-is) ∙ sym (at-cut s sound c here (cut .0) (cut .1) .parts (z .0) (z .1)))
+  cut : (k : ℕ) × (k < countOf s c) × (placeOf s c k ≡ suc (count - 1))
+  cut =
+      rise-cut s sound c here (count - 1) (omega (arith, inside))
+      (omega (arith, from (count - 1) (omega arith), upon (suc (count - 1)) (omega arith) (omega (arith, inside))))
+
+  pub as-cut : (k : ℕ) × (k < countOf s c) × SameRows s q (cutQuestion s c k)
+  as-cut = (cut .0, cut .1, same)
+    where
+      place-is : placeOf s c (cut .0) ≡ count
+      place-is = omega (arith, cut .2)
+
+      same : SameRows s q (cutQuestion s c (cut .0))
+      same r h =
+          let z = place-of s sound c here r h in
+          subst (λ (x : ℕ). markOf s q x ≡ markOf s (cutQuestion s c (cut .0)) x) (z .2)
+          (parts-at s sound q here comp count (omega (arith, inside)) from upon (z .0) (z .1)
+          ∙ ap (λ (p : ℕ). ltb (z .0) p) (sym place-is) ∙ sym (at-cuts s sound c (cut .0) here (cut .1) .parts (z .0) (z .1)))
 
 pub any-root : AnyRoot
-any-root s sound c here t comp some others = as-cut s sound c here t comp some others
+any-root s sound q here comp some others = as-cut s sound q here comp some others
 
 -- ---- mistakes
 
@@ -126,20 +134,20 @@ unfolding pick
 root-bit true l a b = omega arith
 root-bit false l a b = omega arith
 
-pub root-parts : (s : Sheet) (c : ℕ) (t : Float) (l r : Side) → rootMistakes s c t l r ≡ mistakes s (markOf s c t) l + mistakes s (other (markOf s c t)) r
+pub root-parts : (s : Sheet) (q : Question) (l r : Side) → rootMistakes s q l r ≡ mistakes s (markOf s q) l + mistakes s (other (markOf s q)) r
 unfolding rootMistakes mistakes
-root-parts s c t l r =
-    tally-parts (λ x. markOf s c t x && not (eqb (labelOf s x) (answer s l x))) (λ x. not (markOf s c t x) && not (eqb (labelOf s x) (answer s r x)))
-    (λ x. not (eqb (labelOf s x) (pick (markOf s c t x) (answer s l x) (answer s r x))))
-    (λ x. root-bit (markOf s c t x) (labelOf s x) (answer s l x) (answer s r x)) (everyRow s)
+root-parts s q l r =
+    tally-parts (λ x. markOf s q x && not (eqb (labelOf s x) (answer s l x))) (λ x. not (markOf s q x) && not (eqb (labelOf s x) (answer s r x)))
+    (λ x. not (eqb (labelOf s x) (pick (markOf s q x) (answer s l x) (answer s r x))))
+    (λ x. root-bit (markOf s q x) (labelOf s x) (answer s l x) (answer s r x)) (everyRow s)
 
 pub cut-mistakes : CutMistakes
 unfolding errorsAt sidesAt
 cut-mistakes s sound support c k =
-    let m = mistaken s sound support (markOf s c (cutThreshold s c k)) in
+    let m = mistaken s sound support (markOf s (cutQuestion s c k)) in
     omega (
       arith,
-      root-parts s c (cutThreshold s c k) (sidesAt s support c k .left) (sidesAt s support c k .right),
+      root-parts s (cutQuestion s c k) (sidesAt s support c k .left) (sidesAt s support c k .right),
       m .left,
       m .right,
     )
@@ -152,18 +160,18 @@ same-mistakes s few more x h =
     (λ r k. ap (λ (b : Bool). bit (b && not (eqb (labelOf s r) (answer s x r)))) (h r k))
 
 pub root-least : RootLeast
-root-least s sound support small c here t comp some others l r pl pr =
-    let z = any-root s sound c here t comp some others in
-    let u : Float = cutThreshold s c (z .0) in (
+root-least s sound support small q here comp some others l r pl pr =
+    let z = any-root s sound q here comp some others in
+    let p : Question = cutQuestion s (q .column) (z .0) in (
       z .0,
       z .1,
       omega (
         arith,
-        root-parts s c t l r,
-        same-mistakes s (markOf s c t) (markOf s c u) l (z .2),
-        same-mistakes s (other (markOf s c t)) (other (markOf s c u)) r (λ x h. ap not (z .2 x h)),
-        left-opt s sound support small c here (z .0) .least l pl,
-        right-opt s sound support small c here (z .0) .least r pr,
+        root-parts s q l r,
+        same-mistakes s (markOf s q) (markOf s p) l (z .2),
+        same-mistakes s (other (markOf s q)) (other (markOf s p)) r (λ x h. ap not (z .2 x h)),
+        left-opt s sound support small (q .column) here (z .0) .least l pl,
+        right-opt s sound support small (q .column) here (z .0) .least r pr,
       ),
     )
 
@@ -174,7 +182,7 @@ both-bits false w = omega arith
 pub one-side : OneSide
 unfolding mistakes
 one-side s sound support small c here k x h =
-    let m : ℕ → Bool = markOf s c (cutThreshold s c k) in
+    let m : ℕ → Bool = markOf s (cutQuestion s c k) in
     omega (
       arith,
       left-opt s sound support small c here k .least x h,

@@ -10,22 +10,23 @@ use lib.Ieee.{Float}
 use lib.Dec.{T, eqb, eqb→eq}
 use Rattle.basics.specs.Choice.{bit}
 use Rattle.basics.proofs.Choice.{by-test, neqb}
-use Rattle.order.specs.Order.{key, comparable}
-use Rattle.threshold.specs.Threshold.{goesLeft}
+use Rattle.threshold.specs.Order.{key, comparable}
 use Rattle.threshold.specs.Laws.{Measured}
 use Rattle.threshold.proofs.Law.{measured-comparable}
-use Rattle.sheet.specs.Sheet.{Sheet, valueOf, labelOf}
+use Rattle.sheet.specs.Sheet.{Sheet, labelOf}
 use Rattle.sheet.specs.Sound.{Sound}
 use Rattle.tree.specs.Answer.{sideError}
+use Rattle.tree.specs.declared.Question.{Question}
 use Rattle.tree.specs.declared.Side.the-variants.{Leaf, Split}
 use Rattle.side_scan.specs.declared.SideScan.{SideScan}
-use Rattle.cut_score.specs.declared.Best.{Best}
-use Rattle.best_counts.specs.Commonest.{commonest, mostOf}
+use Rattle.side_scan.specs.declared.cut_score.Best.{Best}
+use Rattle.side_scan.specs.Commonest.{commonest, mostOf}
 use Rattle.side_scan.specs.OneSide.{ownAt, leafLabel, leafScore, sideOf}
-use Rattle.two_sides.specs.Column.{other, sizeOf, labelled, ownOf, startOf}
-use Rattle.two_sides.specs.Kept.{Owns}
-use Rattle.best_counts.proofs.Commonest.{commonest-in}
-use Rattle.two_sides.proofs.Live.{own-at, owns-start}
+use Rattle.leaves_score.specs.Root.{markOf}
+use Rattle.leaves_score.specs.Column.{other, sizeOf, labelled, ownOf, sideAtStart}
+use Rattle.leaves_score.specs.Kept.{Owns}
+use Rattle.side_scan.proofs.Commonest.{commonest-in}
+use Rattle.leaves_score.proofs.Live.{own-at, owns-start}
 use Rattle.side_laws.specs.Alone.{alone, sideAlone}
 use Rattle.side_laws.specs.Told.{leftPart, rightPart, wrongOf, SplitTold, Told, Tells, ErrorsAddUp}
 use Rattle.side_laws.proofs.Decouple.{owns-columns, decouples}
@@ -43,30 +44,36 @@ left-bits false b w n e = refl
 part-bits : (a b w : Bool) → b ≡ w → bit (a && w) ≡ bit (a && b)
 part-bits a b w e = ap (λ (x : Bool). bit (a && x)) (sym e)
 
-module _ (s : Sheet) (sound : Sound s) (mine : ℕ → Bool) (c : ℕ) (here : c < s .columns) (t : Float) (comp : T (comparable t)) where
-  pub left-wrong-is : (l : ℕ) → partWrong s mine (sent s c (key t)) l ≡ wrongOf s (leftPart s mine c t) l
-  unfolding wrongOf
+module _ (s : Sheet) (sound : Sound s) (mine : ℕ → Bool) (q : Question) (here : q .column < s .columns) (comp : T (comparable (q .threshold))) where
+  abbrev c : ℕ
+  c = q .column
+
+  abbrev t : Float
+  t = q .threshold
+
+  pub left-wrong-is : (l : ℕ) → partWrong s mine (sent s c (key t)) l ≡ wrongOf s (leftPart s mine q) l
+  unfolding wrongOf markOf
   left-wrong-is l =
-      rows-alike s (λ r. mine r && (sent s c (key t) r && not (eqb (labelOf s r) l))) (λ r. leftPart s mine c t r && not (eqb (labelOf s r) l))
-      (λ r h. left-bits (mine r) (goesLeft (valueOf s c r) t) (sent s c (key t) r) (not (eqb (labelOf s r) l)) (goes s sound c here t comp r h))
+      rows-alike s (λ r. mine r && (sent s c (key t) r && not (eqb (labelOf s r) l))) (λ r. leftPart s mine q r && not (eqb (labelOf s r) l))
+      (λ r h. left-bits (mine r) (markOf s q r) (sent s c (key t) r) (not (eqb (labelOf s r) l)) (goes s sound c here t comp r h))
 
-  pub right-wrong-is : (l : ℕ) → partWrong s mine (kept s c (key t)) l ≡ wrongOf s (rightPart s mine c t) l
-  unfolding wrongOf
+  pub right-wrong-is : (l : ℕ) → partWrong s mine (kept s c (key t)) l ≡ wrongOf s (rightPart s mine q) l
+  unfolding wrongOf markOf
   right-wrong-is l =
-      rows-alike s (λ r. mine r && (kept s c (key t) r && not (eqb (labelOf s r) l))) (λ r. rightPart s mine c t r && not (eqb (labelOf s r) l))
-      (λ r h. left-bits (mine r) (not (goesLeft (valueOf s c r) t)) (kept s c (key t) r) (not (eqb (labelOf s r) l)) (ap not (goes s sound c here t comp r h)))
+      rows-alike s (λ r. mine r && (kept s c (key t) r && not (eqb (labelOf s r) l))) (λ r. rightPart s mine q r && not (eqb (labelOf s r) l))
+      (λ r h. left-bits (mine r) (not (markOf s q r)) (kept s c (key t) r) (not (eqb (labelOf s r) l)) (ap not (goes s sound c here t comp r h)))
 
-  left-rows-is : partRows s mine (sent s c (key t)) ≡ sizeOf s (leftPart s mine c t)
-  unfolding sizeOf
+  left-rows-is : partRows s mine (sent s c (key t)) ≡ sizeOf s (leftPart s mine q)
+  unfolding sizeOf markOf
   left-rows-is =
-      rows-alike s (λ r. mine r && sent s c (key t) r) (leftPart s mine c t)
-      (λ r h. part-bits (mine r) (goesLeft (valueOf s c r) t) (sent s c (key t) r) (goes s sound c here t comp r h))
+      rows-alike s (λ r. mine r && sent s c (key t) r) (leftPart s mine q)
+      (λ r h. part-bits (mine r) (markOf s q r) (sent s c (key t) r) (goes s sound c here t comp r h))
 
-  right-rows-is : partRows s mine (kept s c (key t)) ≡ sizeOf s (rightPart s mine c t)
-  unfolding sizeOf
+  right-rows-is : partRows s mine (kept s c (key t)) ≡ sizeOf s (rightPart s mine q)
+  unfolding sizeOf markOf
   right-rows-is =
-      rows-alike s (λ r. mine r && kept s c (key t) r) (rightPart s mine c t)
-      (λ r h. part-bits (mine r) (not (goesLeft (valueOf s c r) t)) (kept s c (key t) r) (ap not (goes s sound c here t comp r h)))
+      rows-alike s (λ r. mine r && kept s c (key t) r) (rightPart s mine q)
+      (λ r h. part-bits (mine r) (not (markOf s q r)) (kept s c (key t) r) (ap not (goes s sound c here t comp r h)))
 
 -- ---- a leaf
 
@@ -95,43 +102,41 @@ module _ (s : Sheet) (sound : Sound s) (support : ℕ) (mine : ℕ → Bool) whe
         own-at s support mine t owns (commonest (ownAt t) (t .labels))
         (omega (arith, commonest-in (ownAt t) (t .labels) some-labels, owns .labels-is, sound .limited .labels-most))
 
-    leaf-told : Told s support mine (Leaf (leafLabel t) (t .size - leafScore t))
-    leaf-told = (leaf-in, omega (arith, leaf-count, wrong-rows s mine (leafLabel t), owns .size-is))
+    leaf-told : Told s support mine (Leaf (record { label = leafLabel t; error = t .size - leafScore t }))
+    leaf-told = record { label-in = leaf-in; error-is = omega (arith, leaf-count, wrong-rows s mine (leafLabel t), owns .size-is) }
 
     -- ---- a split
 
     module _ (b : Best) (x : Taken s support mine b) where
-      between-keys : (keyOf s (b .column) (x .lowerRow) ≤ key (b .threshold)) × (key (b .threshold) < keyOf s (b .column) (x .upperRow))
+      between-keys : (keyOf s (b .question .column) (x .lowerRow) ≤ key (b .question .threshold)) × (key (b .question .threshold) < keyOf s (b .question .column) (x .upperRow))
       between-keys =
-          subst (λ (t : Float). (keyOf s (b .column) (x .lowerRow) ≤ key t) × (key t < keyOf s (b .column) (x .upperRow))) (sym (x .threshold-is)) (
-            lower-is s sound (b .column) (x .column-in) (x .lowerRow) (x .upperRow) (x .lower-in) (x .upper-in) (x .ascends),
-            upper-is s sound (b .column) (x .column-in) (x .lowerRow) (x .upperRow) (x .lower-in) (x .upper-in) (x .ascends),
+          subst (λ (t : Float). (keyOf s (b .question .column) (x .lowerRow) ≤ key t) × (key t < keyOf s (b .question .column) (x .upperRow))) (sym (x .threshold-is)) (
+            lower-is s sound (b .question .column) (x .column-in) (x .lowerRow) (x .upperRow) (x .lower-in) (x .upper-in) (x .ascends),
+            upper-is s sound (b .question .column) (x .column-in) (x .lowerRow) (x .upperRow) (x .lower-in) (x .upper-in) (x .ascends),
           )
 
-      in-measure : Measured (b .threshold)
+      in-measure : Measured (b .question .threshold)
       in-measure =
           subst Measured (sym (x .threshold-is))
-          (threshold-measured s sound (b .column) (x .column-in) (x .lowerRow) (x .upperRow) (x .lower-in) (x .upper-in) (x .ascends))
+          (threshold-measured s sound (b .question .column) (x .column-in) (x .lowerRow) (x .upperRow) (x .lower-in) (x .upper-in) (x .ascends))
 
-      pub split-told : SplitTold s support mine (b .column) (b .threshold) (b .left) (b .right) (b .lost) (b .missed)
+      pub split-told : SplitTold s support mine (b .question) (b .left) (b .right)
       split-told =
-          let comp : T (comparable (b .threshold)) = measured-comparable (b .threshold) in-measure in
-          let p : PartsAt s support mine b (key (b .threshold)) = x .parts (key (b .threshold)) (between-keys .0) (between-keys .1) in
+          let comp : T (comparable (b .question .threshold)) = measured-comparable (b .question .threshold) in-measure in
+          let p : PartsAt s support mine b (key (b .question .threshold)) = x .parts (key (b .question .threshold)) (between-keys .0) (between-keys .1) in
           record {
             column-in = x .column-in;
             threshold-in = in-measure;
-            left-in = x .left-in;
-            right-in = x .right-in;
-            lost-is = p .lost-is ∙ left-wrong-is s sound mine (b .column) (x .column-in) (b .threshold) comp (b .left);
-            missed-is = p .missed-is ∙ right-wrong-is s sound mine (b .column) (x .column-in) (b .threshold) comp (b .right);
-            left-full = omega (arith, p .left-full, left-rows-is s sound mine (b .column) (x .column-in) (b .threshold) comp);
-            right-full = omega (arith, p .right-full, right-rows-is s sound mine (b .column) (x .column-in) (b .threshold) comp);
+            left-told = record { label-in = x .left-in; error-is = p .left-error ∙ left-wrong-is s sound mine (b .question) (x .column-in) comp (b .left .label) };
+            right-told = record { label-in = x .right-in; error-is = p .right-error ∙ right-wrong-is s sound mine (b .question) (x .column-in) comp (b .right .label) };
+            left-full = omega (arith, p .left-full, left-rows-is s sound mine (b .question) (x .column-in) comp);
+            right-full = omega (arith, p .right-full, right-rows-is s sound mine (b .question) (x .column-in) comp);
           }
 
     -- ---- the side
 
     split-case : (b : Best) → Good s support mine b → T (not (eqb (b .score) (leafScore t)))
-        → Told s support mine (Split (b .column) (b .threshold) (b .left) (b .right) (b .lost) (b .missed))
+        → Told s support mine (Split (b .question) (b .left) (b .right))
     split-case b (inl e) n = absurd (neqb (b .score) (leafScore t) n (e ∙ sym leaf-is))
     split-case b (inr x) n = split-told b x
 
@@ -139,7 +144,7 @@ module _ (s : Sheet) (sound : Sound s) (support : ℕ) (mine : ℕ → Bool) whe
     unfolding sideOf
     side-told g = by-test (Told s support mine) (eqb (t .best .score) (leafScore t)) (λ _. leaf-told) (λ n. split-case (t .best) g n)
 
-    error-case : (b : Best) → Good s support mine b → T (not (eqb (b .score) (leafScore t))) → b .score + (b .lost + b .missed) ≡ sizeOf s mine
+    error-case : (b : Best) → Good s support mine b → T (not (eqb (b .score) (leafScore t))) → b .score + (b .left .error + b .right .error) ≡ sizeOf s mine
     error-case b (inl e) n = absurd (neqb (b .score) (leafScore t) n (e ∙ sym leaf-is))
     error-case b (inr x) n = x .errors
 
@@ -151,7 +156,7 @@ module _ (s : Sheet) (sound : Sound s) (support : ℕ) (mine : ℕ → Bool) whe
 
   pub owns-alone : Owns s support mine (alone s support mine)
   unfolding alone
-  owns-alone = owns-columns s sound support mine (s .columns) 0 (startOf s support mine) (owns-start s support mine)
+  owns-alone = owns-columns s sound support mine (s .columns) 0 (sideAtStart s support mine) (owns-start s support mine)
 
   pub alone-told : Told s support mine (sideAlone s support mine)
   unfolding sideAlone

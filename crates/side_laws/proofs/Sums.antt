@@ -8,12 +8,12 @@ use mathlib.Core.List.{List, [], _∷_, _++_}
 use Rattle.sheet.specs.Sheet.{Sheet}
 use Rattle.sheet.specs.Sound.{Sound}
 use Rattle.side_scan.specs.declared.SideScan.{SideScan}
-use Rattle.side_scan.specs.OneSide.{cleared}
-use Rattle.two_sides.specs.Column.{startOf, rowStep}
-use Rattle.two_sides.specs.Kept.{through, Owns, Fits, Live}
-use Rattle.two_sides.proofs.Live.{own-at, live-step, start-live, owns-start, owns-cleared}
+use Rattle.side_scan.specs.OneSide.{restarted}
+use Rattle.leaves_score.specs.Column.{sideAtStart, rowStep}
+use Rattle.leaves_score.specs.Kept.{through, Owns, Fits, Live}
+use Rattle.leaves_score.proofs.Live.{own-at, live-step, start-live, owns-start, owns-cleared}
 use Rattle.side_laws.specs.Alone.{columnsAlone, AddUp, AddsUp}
-use Rattle.two_sides.proofs.Single.{owns-through}
+use Rattle.leaves_score.proofs.Single.{owns-through}
 use Rattle.side_laws.proofs.Decouple.{owns-columns}
 
 live-through : (s : Sheet) (c : ℕ) (done rest : List ℕ) (t : SideScan) → Live s (done ++ rest) t → Live s rest (through s c done t)
@@ -30,10 +30,10 @@ add-up s sound support mine rest t o f =
 
 pub adds-up : AddsUp
 adds-up s sound support mine c h done rest e t q n =
-    let start : SideScan = columnsAlone s mine c 0 (startOf s support mine) in
-    let o : Owns s support mine start = owns-columns s sound support mine c 0 (startOf s support mine) (owns-start s support mine) in
+    let start : SideScan = columnsAlone s mine c 0 (sideAtStart s support mine) in
+    let o : Owns s support mine start = owns-columns s sound support mine c 0 (sideAtStart s support mine) (owns-start s support mine) in
     let live : Live s rest t =
-    subst (Live s rest) (sym q) (live-through s c done rest (cleared start) (subst (λ xs. Live s xs (cleared start)) e (start-live s sound support mine start o c h))) in
+    subst (Live s rest) (sym q) (live-through s c done rest (restarted start) (subst (λ xs. Live s xs (restarted start)) e (start-live s sound support mine start o c h))) in
     add-up s sound support mine rest t
-    (subst (Owns s support mine) (sym q) (owns-through s c support mine done (cleared start) (owns-cleared s support mine start o)))
+    (subst (Owns s support mine) (sym q) (owns-through s c support mine done (restarted start) (owns-cleared s support mine start o)))
     (live n .fits)

@@ -13,22 +13,23 @@ use Rattle.basics.specs.Choice.{bit}
 use Rattle.basics.specs.Lists.{All, tally, those}
 use Rattle.basics.proofs.Choice.{decide, reach, and-left, and-right, nor-left}
 use Rattle.basics.proofs.Lists.{all-map}
-use Rattle.order.specs.Order.{key}
+use Rattle.threshold.specs.Order.{key}
 use Rattle.threshold.specs.Threshold.{thresholdOf}
 use Rattle.sheet.specs.Sheet.{Sheet, valueOf, labelOf, everyRow, orderOf, leastRows}
 use Rattle.sheet.specs.Sound.{Sound}
 use Rattle.side_scan.specs.declared.SideScan.{SideScan}
-use Rattle.cut_score.specs.declared.Best.{Best}
-use Rattle.best_counts.specs.Commonest.{commonest, mostOf}
-use Rattle.cut_score.specs.Scored.{fallen}
-use Rattle.side_scan.specs.OneSide.{cleared, quiet, before, later, rowsLeft, leftBest, rightBest, totalOf, supported, takes, splitAt, bestAfter, countRow, onlyCounted, scored}
-use Rattle.two_sides.specs.Column.{sizeOf, ownOf, startOf}
-use Rattle.two_sides.specs.Kept.{through, Owns, Fits, Live}
-use Rattle.best_counts.proofs.Commonest.{commonest-in}
-use Rattle.two_sides.proofs.Counts.{later-is, rows-left, left-few, right-few}
-use Rattle.two_sides.proofs.Live.{best-taken, best-left, step-open, step-closed, open-counted, open-scored, owns-start, owns-cleared, start-live}
+use Rattle.side_scan.specs.declared.cut_score.Best.{Best}
+use Rattle.side_scan.specs.Commonest.{commonest, mostOf}
+use Rattle.side_scan.specs.Scored.{fallen, verdictOf, splitBy}
+use Rattle.side_scan.specs.Counts.{peaksOf}
+use Rattle.side_scan.specs.OneSide.{restarted, quiet, before, later, rowsLeft, leftBest, rightBest, totalOf, supported, takes, splitAt, bestAfter, countRow, onlyCounted, scored}
+use Rattle.leaves_score.specs.Column.{sizeOf, ownOf, sideAtStart}
+use Rattle.leaves_score.specs.Kept.{through, Owns, Fits, Live}
+use Rattle.side_scan.proofs.Commonest.{commonest-in}
+use Rattle.leaves_score.proofs.Counts.{later-is, rows-left, left-few, right-few}
+use Rattle.leaves_score.proofs.Live.{best-taken, best-left, step-open, step-closed, open-counted, open-scored, owns-start, owns-cleared, start-live}
 use Rattle.side_laws.specs.Alone.{columnAlone, columnsAlone, alone}
-use Rattle.two_sides.proofs.Single.{shut}
+use Rattle.leaves_score.proofs.Single.{shut}
 use Rattle.side_laws.proofs.Decouple.{owns-column}
 use Rattle.side_laws.proofs.Tallies.{tally-not, tally-always, rows-alike}
 use Rattle.side_laws.proofs.Fair.{keyOf, alike}
@@ -47,26 +48,26 @@ leafCount s mine = mostOf (λ l. getD (ownOf s mine) l 0) (s .labels)
 
 -- the two parts of the rows at a key: their errors, and that each has rows enough
 pub record PartsAt (s : Sheet) (support : ℕ) (mine : ℕ → Bool) (b : Best) (k : ℕ) : Type 0 where
-  pub lost-is : b .lost ≡ partWrong s mine (sent s (b .column) k) (b .left)
-  pub missed-is : b .missed ≡ partWrong s mine (kept s (b .column) k) (b .right)
-  pub left-full : leastRows support ≤ partRows s mine (sent s (b .column) k)
-  pub right-full : leastRows support ≤ partRows s mine (kept s (b .column) k)
+  pub left-error : b .left .error ≡ partWrong s mine (sent s (b .question .column) k) (b .left .label)
+  pub right-error : b .right .error ≡ partWrong s mine (kept s (b .question .column) k) (b .right .label)
+  pub left-full : leastRows support ≤ partRows s mine (sent s (b .question .column) k)
+  pub right-full : leastRows support ≤ partRows s mine (kept s (b .question .column) k)
 
 -- a split taken, between two rows' values
 pub record Taken (s : Sheet) (support : ℕ) (mine : ℕ → Bool) (b : Best) : Type 0 where
-  pub column-in : b .column < s .columns
+  pub column-in : b .question .column < s .columns
   pub lowerRow : ℕ
   pub upperRow : ℕ
   pub lower-in : lowerRow < s .rows
   pub upper-in : upperRow < s .rows
-  pub ascends : keyOf s (b .column) lowerRow < keyOf s (b .column) upperRow
-  pub threshold-is : b .threshold ≡ thresholdOf (valueOf s (b .column) lowerRow) (valueOf s (b .column) upperRow)
-  pub left-in : b .left < s .labels
-  pub right-in : b .right < s .labels
+  pub ascends : keyOf s (b .question .column) lowerRow < keyOf s (b .question .column) upperRow
+  pub threshold-is : b .question .threshold ≡ thresholdOf (valueOf s (b .question .column) lowerRow) (valueOf s (b .question .column) upperRow)
+  pub left-in : b .left .label < s .labels
+  pub right-in : b .right .label < s .labels
   pub beats : leafCount s mine < b .score
-  pub errors : b .score + (b .lost + b .missed) ≡ sizeOf s mine
+  pub errors : b .score + (b .left .error + b .right .error) ≡ sizeOf s mine
   -- whatever key a threshold between them has
-  pub parts : (k : ℕ) → keyOf s (b .column) lowerRow ≤ k → k < keyOf s (b .column) upperRow → PartsAt s support mine b k
+  pub parts : (k : ℕ) → keyOf s (b .question .column) lowerRow ≤ k → k < keyOf s (b .question .column) upperRow → PartsAt s support mine b k
 
 -- the best so far is the leaf, or a split taken
 abbrev pub Good : Sheet → ℕ → (ℕ → Bool) → Best → Type 0
@@ -110,13 +111,13 @@ module _ (s : Sheet) (sound : Sound s) (support : ℕ) (mine : ℕ → Bool) (c 
     in-labels l h = omega (arith, owns .labels-is)
 
     left-wrong : leftBest t + tally (λ x. not (eqb (labelOf s x) (commonest (before t) (t .labels)))) done ≡ t .counted
-    unfolding leftBest mostOf
+    unfolding peaksOf mostOf
     left-wrong =
         let l : ℕ = commonest (before t) (t .labels) in
         omega (arith, past .befores l (in-labels l (commonest-in _ _ (fits .some))), tally-not (λ x. eqb (labelOf s x) l) done, past .rows)
 
     right-wrong : rightBest t + tally (λ x. not (eqb (labelOf s x) (commonest (later t) (t .labels)))) (r ∷ rs) ≡ suc (length rs)
-    unfolding rightBest mostOf
+    unfolding peaksOf mostOf
     right-wrong =
         let l : ℕ = commonest (later t) (t .labels) in
         omega (arith, later-is s (r ∷ rs) t fits l (commonest-in _ _ (fits .some)), tally-not (λ x. eqb (labelOf s x) l) (r ∷ rs))
@@ -126,11 +127,11 @@ module _ (s : Sheet) (sound : Sound s) (support : ℕ) (mine : ℕ → Bool) (c 
 
     parts-at : (k : ℕ) → All (λ x. keyOf s c x ≤ k) done → All (λ x. k < keyOf s c x) (r ∷ rs) → leastRows support ≤ t .counted → leastRows support ≤ rowsLeft t
         → PartsAt s support mine (splitAt t c (valueOf s c r)) k
-    unfolding splitAt
+    unfolding splitBy peaksOf
     parts-at k low high a z =
         record {
-          lost-is = omega (arith, left-tally s mine c k done (r ∷ rs) (past .parts) low high (λ x. not (eqb (labelOf s x) (commonest (before t) (t .labels)))), left-wrong);
-          missed-is = omega (
+          left-error = omega (arith, left-tally s mine c k done (r ∷ rs) (past .parts) low high (λ x. not (eqb (labelOf s x) (commonest (before t) (t .labels)))), left-wrong);
+          right-error = omega (
             arith,
             right-tally s mine c k done (r ∷ rs) (past .parts) low high (λ x. not (eqb (labelOf s x) (commonest (later t) (t .labels)))),
             right-wrong,
@@ -154,7 +155,7 @@ module _ (s : Sheet) (sound : Sound s) (support : ℕ) (mine : ℕ → Bool) (c 
 
     cut-taken : T (supported t) → T (not (t .started && eq (t .previous) (valueOf s c r))) → leafCount s mine < totalOf t
         → Taken s support mine (splitAt t c (valueOf s c r))
-    unfolding splitAt supported totalOf
+    unfolding splitBy peaksOf
     cut-taken y n g =
         let a : leastRows support ≤ t .counted = subst (λ (x : ℕ). x ≤ t .counted) (owns .least-is) (leb→le _ _ (and-left (leb (t .least) (t .counted)) _ y)) in
         let z : leastRows support ≤ rowsLeft t = subst (λ (x : ℕ). x ≤ rowsLeft t) (owns .least-is) (leb→le _ _ (and-right (leb (t .least) (t .counted)) _ y)) in
@@ -182,7 +183,7 @@ module _ (s : Sheet) (sound : Sound s) (support : ℕ) (mine : ℕ → Bool) (c 
         high k w = (w, all-map (λ x. keyOf s c r ≤ keyOf s c x) (λ x. k < keyOf s c x) (λ x i. omega arith) rs (past .ascending .0))
 
     pub good-after : T (not (quiet t (valueOf s c r))) → Good s support mine (t .best) → Good s support mine (bestAfter t c (valueOf s c r))
-    unfolding takes quiet
+    unfolding verdictOf quiet
     good-after n g =
         decide (takes t)
         (λ y. subst (Good s support mine) (sym (best-taken t c (valueOf s c r) y))
@@ -216,8 +217,8 @@ module _ (s : Sheet) (sound : Sound s) (support : ℕ) (mine : ℕ → Bool) whe
       → Good s support mine ((columnAlone s mine c t) .best)
   unfolding columnAlone
   column-good c t h o g =
-      rows-good s sound support mine c h (those mine (orderOf s c)) [] (cleared t) (start-live s sound support mine t o c h) (λ _. past-cleared s sound mine c h t)
-      (owns-cleared s support mine t o) (unfold cleared in g)
+      rows-good s sound support mine c h (those mine (orderOf s c)) [] (restarted t) (start-live s sound support mine t o c h) (λ _. past-cleared s sound mine c h t)
+      (owns-cleared s support mine t o) (unfold restarted in g)
 
   columns-good : (n c : ℕ) (t : SideScan) → c + n ≤ s .columns → Owns s support mine t → Good s support mine (t .best)
       → Good s support mine ((columnsAlone s mine n c t) .best)
@@ -228,4 +229,4 @@ module _ (s : Sheet) (sound : Sound s) (support : ℕ) (mine : ℕ → Bool) whe
 
   pub side-good : Good s support mine ((alone s support mine) .best)
   unfolding alone
-  side-good = columns-good (s .columns) 0 (startOf s support mine) (omega arith) (owns-start s support mine) (inl (unfold startOf in refl))
+  side-good = columns-good (s .columns) 0 (sideAtStart s support mine) (omega arith) (owns-start s support mine) (inl (unfold sideAtStart in refl))

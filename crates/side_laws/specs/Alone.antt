@@ -11,13 +11,13 @@ use Rattle.sheet.specs.Sheet.{Sheet, labelOf, orderOf}
 use Rattle.sheet.specs.Sound.{Sound}
 use Rattle.tree.specs.declared.Side.{Side}
 use Rattle.side_scan.specs.declared.SideScan.{SideScan}
-use Rattle.two_sides.specs.Kept.{through}
-use Rattle.side_scan.specs.OneSide.{cleared, before, sideOf}
-use Rattle.two_sides.specs.Column.{other, sizeOf, labelled, startOf}
+use Rattle.leaves_score.specs.Kept.{through}
+use Rattle.side_scan.specs.OneSide.{restarted, before, sideOf}
+use Rattle.leaves_score.specs.Column.{other, sizeOf, labelled, sideAtStart}
 use Rattle.leaves_score.specs.Scan.{sidesOf}
 
 unfoldable pub columnAlone : Sheet → (ℕ → Bool) → ℕ → SideScan → SideScan
-columnAlone s mine c t = through s c (those mine (orderOf s c)) (cleared t)
+columnAlone s mine c t = through s c (those mine (orderOf s c)) (restarted t)
 
 -- n columns from c on
 unfoldable pub columnsAlone : Sheet → (ℕ → Bool) → ℕ → ℕ → SideScan → SideScan
@@ -25,7 +25,7 @@ columnsAlone s mine zero c t = t
 columnsAlone s mine (suc n) c t = columnsAlone s mine n (suc c) (columnAlone s mine c t)
 
 unfoldable pub alone : Sheet → ℕ → (ℕ → Bool) → SideScan
-alone s support mine = columnsAlone s mine (s .columns) 0 (startOf s support mine)
+alone s support mine = columnsAlone s mine (s .columns) 0 (sideAtStart s support mine)
 
 unfoldable pub sideAlone : Sheet → ℕ → (ℕ → Bool) → Side
 sideAlone s support mine = sideOf (alone s support mine)
@@ -47,4 +47,4 @@ abbrev pub AddsUp : Type 0
 AddsUp =
     (s : Sheet) → Sound s → (support : ℕ) (mine : ℕ → Bool) (c : ℕ) → c < s .columns → (done rest : List ℕ)
     → those mine (orderOf s c) ≡ done ++ rest
-    → (t : SideScan) → t ≡ through s c done (cleared (columnsAlone s mine c 0 (startOf s support mine))) → T (not (t .closed)) → AddUp s mine rest t
+    → (t : SideScan) → t ≡ through s c done (restarted (columnsAlone s mine c 0 (sideAtStart s support mine))) → T (not (t .closed)) → AddUp s mine rest t

@@ -5,20 +5,20 @@ use mathlib.Core.Bool.{Bool, not, _&&_}
 use lib.Dec.{T, eqb}
 use Rattle.basics.specs.Choice.{pick, bit}
 use Rattle.basics.specs.Lists.{tally}
-use Rattle.order.specs.Order.{comparable}
-use Rattle.threshold.specs.Threshold.{goesLeft}
-use Rattle.sheet.specs.Sheet.{Sheet, valueOf, labelOf, everyRow}
+use Rattle.threshold.specs.Order.{comparable}
+use Rattle.sheet.specs.Sheet.{Sheet, labelOf, everyRow}
 use Rattle.sheet.specs.Sound.{Sound}
 use Rattle.tree.specs.Answer.{sideError}
 use Rattle.tree.specs.declared.Side.{Side}
 use Rattle.tree.specs.declared.Side.the-variants.{Leaf, Split}
-use Rattle.two_sides.specs.Column.{other, sizeOf}
+use Rattle.leaves_score.specs.Column.{other, sizeOf}
+use Rattle.leaves_score.specs.Root.{markOf}
 use Rattle.leaves_score.specs.Scan.{sidesOf}
 
 -- the label that a leaf or a question gives a row
 unfoldable pub answer : Sheet → Side → ℕ → ℕ
-answer s (Leaf label error) r = label
-answer s (Split column threshold left right lost missed) r = pick (goesLeft (valueOf s column r) threshold) left right
+answer s (Leaf leaf) r = leaf .label
+answer s (Split question left right) r = pick (markOf s question r) (left .label) (right .label)
 
 -- its mistakes on a set of rows
 unfoldable pub mistakes : Sheet → (ℕ → Bool) → Side → ℕ
@@ -26,8 +26,9 @@ mistakes s mine x = tally (λ r. mine r && not (eqb (labelOf s r) (answer s x r)
 
 -- over the sheet's labels and columns, at any threshold but NaN
 abbrev pub Proper : Sheet → Side → Type 0
-Proper s (Leaf label error) = label < s .labels
-Proper s (Split column threshold left right lost missed) = (column < s .columns) × (left < s .labels) × (right < s .labels) × T (comparable threshold)
+Proper s (Leaf leaf) = leaf .label < s .labels
+Proper s (Split question left right) =
+    (question .column < s .columns) × (left .label < s .labels) × (right .label < s .labels) × T (comparable (question .threshold))
 
 -- n is the least over a leaf and every question at every threshold in every column
 pub record Opt (s : Sheet) (mine : ℕ → Bool) (n : ℕ) : Type 0 where
@@ -41,8 +42,8 @@ pub record BothOpt (s : Sheet) (support : ℕ) (mark : ℕ → Bool) : Type 0 wh
   pub left : Opt s mark (sideError ((sidesOf s support mark) .left))
   pub right : Opt s (other mark) (sideError ((sidesOf s support mark) .right))
 
-abbrev pub Optimal : Type 0
-Optimal = (s : Sheet) → Sound s → (support : ℕ) → support ≤ 1 → (mark : ℕ → Bool) → BothOpt s support mark
+abbrev pub SideOptimal : Type 0
+SideOptimal = (s : Sheet) → Sound s → (support : ℕ) → support ≤ 1 → (mark : ℕ → Bool) → BothOpt s support mark
 
 -- opt grows with the set of rows, and by no more than the rows added
 abbrev pub Grows : Type 0

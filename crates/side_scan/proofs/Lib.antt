@@ -1,2 +1,7 @@
 pub mod Steps
 pub mod Leaf
+pub mod Commonest
+pub mod Running
+pub mod LeafLabel
+pub mod Judged
+pub mod Scored

@@ -1,2 +1,5 @@
 pub mod OneSide
 pub mod Step
+pub mod Commonest
+pub mod Counts
+pub mod Scored

@@ -1,21 +1,22 @@
 -- The scan of one side of a root split (document 01, "Scan of the two sides"): its leaf, what a row does to it, and the side that it ends in; over the record that
 -- the code keeps. Definitions only.
 use Prim.Native.Nat.{ℕ, _+_, _-_}
-use mathlib.Core.Bool.{Bool, true, false, _&&_, _||_}
+use mathlib.Core.Bool.{Bool, true, false}
 use mathlib.Core.List.{List}
 use lib.ListN.{getD, set}
-use lib.Dec.{leb, ltb, eqb}
+use lib.Dec.{eqb}
 use lib.IntN.{pos}
-use lib.Ieee.{Float, fin, eq}
+use lib.Ieee.{Float, fin}
 use Rattle.basics.specs.Choice.{pick}
-use Rattle.threshold.specs.Threshold.{thresholdOf}
 use Rattle.tree.specs.declared.Side.{Side}
 use Rattle.tree.specs.declared.Side.the-variants.{Leaf, Split}
-use Rattle.cut_score.specs.declared.Best.{Best}
+use Rattle.side_scan.specs.declared.best_counts.Peaks.{Peaks}
+use Rattle.side_scan.specs.declared.cut_score.Best.{Best}
+use Rattle.side_scan.specs.declared.cut_score.CutVerdict.{CutVerdict}
 use Rattle.side_scan.specs.declared.SideScan.{SideScan}
-use Rattle.best_counts.specs.Commonest.{commonest, mostOf}
-use Rattle.best_counts.specs.Counts.{noRows}
-use Rattle.cut_score.specs.Scored.{fallen}
+use Rattle.side_scan.specs.Commonest.{commonest, mostOf}
+use Rattle.side_scan.specs.Counts.{noRows, peaksOf}
+use Rattle.side_scan.specs.Scored.{fallen, quietBy, supportedBy, verdictOf, splitBy}
 
 -- 0.0
 abbrev pub nought : Float
@@ -32,19 +33,29 @@ leafLabel t = commonest (ownAt t) (t .labels)
 unfoldable pub leafScore : SideScan → ℕ
 leafScore t = mostOf (ownAt t) (t .labels)
 
+-- a best whose question and leaves are not read
+abbrev pub blankBest : ℕ → Float → Best
+blankBest score threshold =
+    record {
+      score = score;
+      question = record { column = 0; threshold = threshold };
+      left = record { label = 0; error = 0 };
+      right = record { label = 0; error = 0 };
+    }
+
 -- no split is taken yet
 abbrev pub leafBest : ℕ → Best
-leafBest score = record { score = score; column = 0; threshold = nought; left = 0; right = 0; lost = 0; missed = 0 }
+leafBest score = blankBest score nought
 
--- "a column starts with counts, skip, closed mark and previous value cleared"
-unfoldable pub cleared : SideScan → SideScan
-cleared t =
+-- "a column starts with counts, skip, closed mark and previous value cleared": a side of those rows, with that best, at a column's start
+abbrev pub atStart : List ℕ → ℕ → ℕ → ℕ → Best → SideScan
+atStart own size labels least best =
     record {
-      own = t .own;
-      size = t .size;
-      labels = t .labels;
-      least = t .least;
-      best = t .best;
+      own = own;
+      size = size;
+      labels = labels;
+      least = least;
+      best = best;
       seen = noRows;
       counted = 0;
       skip = 0;
@@ -53,11 +64,14 @@ cleared t =
       previous = nought;
     }
 
+unfoldable pub restarted : SideScan → SideScan
+restarted t = atStart (t .own) (t .size) (t .labels) (t .least) (t .best)
+
 -- ---- a row of an open side
 
--- "If the value equals the side's previous one, or skip is still above 0, the row is only counted." A side's first row has no previous value.
+-- whether the row is only counted
 unfoldable pub quiet : SideScan → Float → Bool
-quiet t value = (t .started && eq (t .previous) value) || ltb 0 (fallen (t .skip))
+quiet t value = quietBy (t .started) (t .previous) value (fallen (t .skip))
 
 -- rows of label l counted so far, and those from here on
 abbrev pub before : SideScan → ℕ → ℕ
@@ -70,46 +84,40 @@ later t l = getD (t .own) l 0 - getD (t .seen) l 0
 abbrev pub rowsLeft : SideScan → ℕ
 rowsLeft t = t .size - t .counted
 
--- "Otherwise the cut before it is scored: best count before plus best count from here on."
-unfoldable pub leftBest : SideScan → ℕ
-leftBest t = mostOf (before t) (t .labels)
+-- Otherwise the cut before it is scored: what it comes to, and its split, are those of cut_score, which says them by numbers.
+abbrev pub peaksAt : SideScan → Peaks
+peaksAt t = peaksOf (t .own) (t .seen) (t .labels)
 
-unfoldable pub rightBest : SideScan → ℕ
-rightBest t = mostOf (later t) (t .labels)
+abbrev pub verdictAt : SideScan → CutVerdict
+verdictAt t = verdictOf (peaksAt t) (t .counted) (rowsLeft t) (t .least) (t .best .score) (fallen (t .skip))
 
-unfoldable pub totalOf : SideScan → ℕ
+abbrev pub splitAt : SideScan → ℕ → Float → Best
+splitAt t column value = splitBy (peaksAt t) (t .counted) (rowsLeft t) column (t .previous) value
+
+-- the words that the laws of the scan use for their parts
+abbrev pub leftBest : SideScan → ℕ
+leftBest t = peaksAt t .before
+
+abbrev pub rightBest : SideScan → ℕ
+rightBest t = peaksAt t .after
+
+abbrev pub totalOf : SideScan → ℕ
 totalOf t = leftBest t + rightBest t
 
--- "If both parts have at least max(support, 1) rows and the total beats the score, the split is taken"
-unfoldable pub supported : SideScan → Bool
-supported t = leb (t .least) (t .counted) && leb (t .least) (rowsLeft t)
+abbrev pub supported : SideScan → Bool
+supported t = supportedBy (t .counted) (rowsLeft t) (t .least)
 
-unfoldable pub takes : SideScan → Bool
-takes t = supported t && ltb (t .best .score) (totalOf t)
+abbrev pub takes : SideScan → Bool
+takes t = verdictAt t .taken
 
--- "threshold of the previous and this value, labels, errors"
-unfoldable pub splitAt : SideScan → ℕ → Float → Best
-splitAt t column value =
-    record {
-      score = totalOf t;
-      column = column;
-      threshold = thresholdOf (t .previous) value;
-      left = commonest (before t) (t .labels);
-      right = commonest (later t) (t .labels);
-      lost = t .counted - leftBest t;
-      missed = rowsLeft t - rightBest t;
-    }
+abbrev pub skipAfter : SideScan → ℕ
+skipAfter t = verdictAt t .skip
+
+abbrev pub closes : SideScan → Bool
+closes t = verdictAt t .closed
 
 unfoldable pub bestAfter : SideScan → ℕ → Float → Best
 bestAfter t column value = pick (takes t) (splitAt t column value) (t .best)
-
--- "Otherwise skip becomes score minus total, not below 0."
-unfoldable pub skipAfter : SideScan → ℕ
-skipAfter t = pick (takes t) (fallen (t .skip)) (t .best .score - totalOf t)
-
--- "The side closes for this column if all rows from here on have one label, or if skip is at least their number."
-unfoldable pub closes : SideScan → Bool
-closes t = eqb (rightBest t) (rowsLeft t) || leb (rowsLeft t) (skipAfter t)
 
 -- "Then the row is counted."
 unfoldable pub raised : List ℕ → ℕ → List ℕ
@@ -147,11 +155,9 @@ stepOf t column label value = pick (t .closed) t (pick (quiet t value) (onlyCoun
 unfoldable pub sideOf : SideScan → Side
 sideOf t =
     let b : Best = t .best in
-    pick (eqb (b .score) (leafScore t))
-    (Leaf (leafLabel t) (t .size - leafScore t))
-    (Split (b .column) (b .threshold) (b .left) (b .right) (b .lost) (b .missed))
+    pick (eqb (b .score) (leafScore t)) (Leaf (record { label = leafLabel t; error = t .size - leafScore t })) (Split (b .question) (b .left) (b .right))
 
--- `unfolding computes` opens every definition of a side's scan at once
-unfoldable pub computes : Unit {0}
-unfolding pick commonest mostOf leafLabel leafScore cleared quiet leftBest rightBest totalOf supported takes splitAt bestAfter skipAfter closes raised countRow onlyCounted scored stepOf sideOf
-computes = tt
+-- `unfolding sideComputes` opens every definition of a side's scan at once
+unfoldable pub sideComputes : Unit {0}
+unfolding pick commonest mostOf leafLabel leafScore restarted quiet peaksOf verdictOf splitBy bestAfter raised countRow onlyCounted scored stepOf sideOf
+sideComputes = tt

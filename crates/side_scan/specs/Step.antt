@@ -5,12 +5,11 @@ use mathlib.Core.Bool.{false}
 use mathlib.Core.List.{List}
 use lib.ListN.{getD}
 use Rattle.sheet.specs.Limits.{mostLabels, mostRows}
-use Rattle.cut_score.specs.declared.Best.{Best}
-use Rattle.cut_score.specs.declared.Share.{Share}
+use Rattle.side_scan.specs.declared.cut_score.Share.{Share}
 use Rattle.side_scan.specs.declared.SideScan.{SideScan}
-use Rattle.best_counts.specs.Commonest.{mostOf}
-use Rattle.best_counts.specs.Counts.{counted, noRows}
-use Rattle.side_scan.specs.OneSide.{nought, leafBest, before, later, rowsLeft}
+use Rattle.side_scan.specs.Commonest.{mostOf}
+use Rattle.side_scan.specs.Counts.{counted}
+use Rattle.side_scan.specs.OneSide.{leafBest, atStart, before, later, rowsLeft}
 
 -- a side that can take one more row, of that label
 pub record Ready (t : SideScan) (label : ℕ) : Type 0 where
@@ -34,29 +33,12 @@ shareOf t = record { size = t .size; least = t .least; labels = t .labels }
 
 -- ---- a side's leaf, at its start and at its end
 
--- a side of those rows at a column's start
-abbrev pub atStart : List ℕ → ℕ → ℕ → ℕ → Best → SideScan
-atStart own size labels least best =
-    record {
-      own = own;
-      size = size;
-      labels = labels;
-      least = least;
-      best = best;
-      seen = noRows;
-      counted = 0;
-      skip = 0;
-      closed = false;
-      started = false;
-      previous = nought;
-    }
-
 -- a leaf of those rows, before the first column
-unfoldable pub leafScan : List ℕ → ℕ → ℕ → ℕ → SideScan
+abbrev pub leafScan : List ℕ → ℕ → ℕ → ℕ → SideScan
 leafScan own size labels least = atStart own size labels least (leafBest (mostOf (counted own) labels))
 
 -- a side whose labels' counts are within its size
-pub record Sized (t : SideScan) : Type 0 where
+pub record SideSized (t : SideScan) : Type 0 where
   pub some : 1 ≤ t .labels
   pub few : t .labels ≤ mostLabels
   pub own : (l : ℕ) → l < t .labels → getD (t .own) l 0 ≤ t .size

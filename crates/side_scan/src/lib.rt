@@ -1,16 +1,21 @@
 // One side of a root split as the scan keeps it: its rows, the best question found, and what the next row of a column does to that.
+pub mod best_counts;
+pub mod cut_score;
+
 ghost use mathlib.Core.Path.{_≡_};
 ghost use Prim.Native.Nat.{_≤_};
 ghost use Rattle.sheet.specs.Limits.{mostLabels};
-ghost use Rattle.side_scan.specs.OneSide.{cleared, stepOf, sideOf};
-ghost use Rattle.side_scan.specs.Step.{Steppable, leafScan, Sized};
-use best_counts::commonest_label;
-use best_counts::find_peaks;
-use cut_score::Best;
-use cut_score::fall;
-use cut_score::is_quiet;
-use cut_score::split_of;
+ghost use Rattle.side_scan.specs.OneSide.{restarted, stepOf, sideOf};
+ghost use Rattle.side_scan.specs.Step.{Steppable, leafScan, SideSized};
+use crate::best_counts::commonest_label;
+use crate::best_counts::find_peaks;
+use crate::cut_score::Best;
+use crate::cut_score::fall;
+use crate::cut_score::is_quiet;
+use crate::cut_score::split_of;
 use sheet::MOST_LABELS;
+use tree::Leaf;
+use tree::Question;
 use tree::Side;
 
 // The scan of one side. Its own rows: how many of each label, how many in all, how many labels the sheet has, and how many rows each part of a
@@ -49,7 +54,14 @@ fn step(mut side: SideScan, column: usize, label: usize, value: f64) -> SideScan
         let rest = side.size - counted;
         let was = side.best;
         let peaks = find_peaks(&own, &seen, side.labels);
-        let verdict = cut_score::judge(peaks, counted, rest, side.least, was.score, skip);
+        let verdict = crate::cut_score::judge_cut(
+            peaks,
+            counted,
+            rest,
+            side.least,
+            was.score,
+            skip,
+        );
         if verdict.taken {
             let best = split_of(peaks, counted, rest, column, previous, value);
             side.best = best;
@@ -85,7 +97,7 @@ pub fn advanced(side: SideScan, column: usize, label: usize, value: f64) -> Side
 
 // A side at the start of a column.
 pub fn restart(mut side: SideScan) -> SideScan
-    ensures { λ r. ⌜ r ≡ cleared side ⌝ }
+    ensures { λ r. ⌜ r ≡ restarted side ⌝ }
 {
     side.seen = [0; MOST_LABELS];
     side.counted = 0;
@@ -102,14 +114,16 @@ pub fn begin(own: [u16; MOST_LABELS], size: u32, labels: usize, least: u32) -> S
     ensures { λ r. ⌜ r ≡ leafScan own size labels least ⌝ }
 {
     let leaf = commonest_label(&own, labels);
-    let best = Best {
-        score: leaf.count,
+    let question = Question {
         column: 0,
         threshold: 0.0,
-        left: 0,
-        right: 0,
-        lost: 0,
-        missed: 0,
+    };
+    let none = Leaf { label: 0, error: 0 };
+    let best = Best {
+        score: leaf.count,
+        question,
+        left: none,
+        right: none,
     };
     SideScan {
         own,
@@ -127,24 +141,25 @@ pub fn begin(own: [u16; MOST_LABELS], size: u32, labels: usize, least: u32) -> S
 }
 
 pub fn side_of(side: SideScan) -> Side
-    requires { ⌜ Sized side ⌝ }
+    requires { ⌜ SideSized side ⌝ }
     ensures { λ r. ⌜ r ≡ sideOf side ⌝ }
 {
     let own = side.own;
     let leaf = commonest_label(&own, side.labels);
     let best = side.best;
     if best.score == leaf.count {
-        return Side::Leaf {
+        let all = Leaf {
             label: leaf.label,
             error: side.size - leaf.count,
         };
+        return Side::Leaf(all);
     }
+    let question = best.question;
+    let left = best.left;
+    let right = best.right;
     Side::Split {
-        column: best.column,
-        threshold: best.threshold,
-        left: best.left,
-        right: best.right,
-        lost: best.lost,
-        missed: best.missed,
+        question,
+        left,
+        right,
     }
 }

@@ -10,14 +10,14 @@ use lib.Ieee.{Float, nan, inf, fin, Format, binary64, prec, emax, low, below, ad
 use lib.Ieee.Fits.{and-l, and-r, two, two-le-pos}
 use lib.Ieee.Exact.{HasValue}
 use lib.Ieee.Scale.{overflow, finite}
-use Rattle.order.specs.Order.{comparable, place, key}
-use Rattle.order.proofs.Compare.{lt-is, le-places}
-use Rattle.order.proofs.Held.{Held, held}
-use Rattle.order.proofs.Order.{finite-comparable, →le}
+use Rattle.threshold.specs.Order.{comparable, rankAt, key}
+use Rattle.threshold.proofs.Compare.{lt-is, le-places}
+use Rattle.threshold.proofs.Held.{Held, held}
+use Rattle.threshold.proofs.Keys.{finite-comparable, →le}
 use Rattle.threshold.proofs.Rounding.{whole, half, twice, whole-le, half-le, half-ge}
 use Rattle.threshold.proofs.Midpoint.{signOf, sizeOf, size-le, midpoint-is}
 use Rattle.threshold.specs.Threshold as spec
-use Rattle.threshold.specs.Threshold.{midpointOf, thresholdOf, lowest, largest, within}
+use Rattle.threshold.specs.Threshold.{midpointOf, thresholdOf, lowestValue, largestValue, within}
 use Rattle.threshold.specs.Laws.{Measured, Between}
 
 -- ---- nothing overflows up to 2 ^ J units in each operand
@@ -55,7 +55,7 @@ module _ (f : Format) (q j b Z : ℕ) (small : q < 2 ^ prec f) (fine : q * 2 ^ s
   double' w h = le-trans h (le-of-eq (sym (twice q j)))
 
   lower-first : (s t : Bool) → T (below s (q * 2 ^ j) t b) → whole f (sizeOf s (q * 2 ^ j) t b) < overflow f → half f (sizeOf s (q * 2 ^ j) t b) < overflow f
-      → place Z s (q * 2 ^ j) ≤ place Z (signOf s (q * 2 ^ j) t b) (half f (sizeOf s (q * 2 ^ j) t b))
+      → rankAt Z s (q * 2 ^ j) ≤ rankAt Z (signOf s (q * 2 ^ j) t b) (half f (sizeOf s (q * 2 ^ j) t b))
   lower-first false false d o o' =
       let a = q * 2 ^ j in
       let l : a < b = ltb→lt a b d in
@@ -63,7 +63,7 @@ module _ (f : Format) (q j b Z : ℕ) (small : q < 2 ^ prec f) (fine : q * 2 ^ s
   lower-first false true d o o' = absurd d
   lower-first true false d o o' = go (ltb (q * 2 ^ j) b) (ltb b (q * 2 ^ j))
     where
-      go : (i k : Bool) → place Z true (q * 2 ^ j) ≤ place Z (cond i false (true && k)) (half f (cond i (b - q * 2 ^ j) (q * 2 ^ j - b)))
+      go : (i k : Bool) → rankAt Z true (q * 2 ^ j) ≤ rankAt Z (cond i false (true && k)) (half f (cond i (b - q * 2 ^ j) (q * 2 ^ j - b)))
       go true k = omega arith
       go false true = omega (arith, half-le f q j small fine (q * 2 ^ j - b) (double' (q * 2 ^ j - b) (omega arith)))
       go false false = omega arith
@@ -87,7 +87,7 @@ module _ (f : Format) (J : ℕ) (room : suc J < low f + suc (emax f)) where
       let v : HasValue (div f (add f x y) spec.two) (signOf s a t b) (half f w) L = midpoint-is f x y s t a b (h .value) k o o' in
       let d : T (below s a t b) = subst T (lt-is L (pow-pos (low f)) x y s t a b (h .value) k) l in
       subst T (sym (le-places L (pow-pos (low f)) x (div f (add f x y) spec.two) s (signOf s a t b) a (half f w) (h .value) v (overflow f) (le-of-lt (h .fine)) (le-of-lt o')))
-      (le→leb (place (overflow f) s a) (place (overflow f) (signOf s a t b) (half f w))
+      (le→leb (rankAt (overflow f) s a) (rankAt (overflow f) (signOf s a t b) (half f w))
       (lower-first f (h .digits) (h .shift) b (overflow f) (h .small) (digits-fine f J room (h .digits) (h .shift) A) (le-of-lt (h .fine)) s t d o o'))
 
 -- ---- magnitudes up to 10 ^ 12
@@ -103,10 +103,10 @@ size-within c C x lo hi s a m h k l below above = go s h
 abbrev most : ℕ
 most = 1000000000000 * 2 ^ 1074
 
-lo-value : HasValue lowest true most (2 ^ 1074)
+lo-value : HasValue lowestValue true most (2 ^ 1074)
 lo-value = (refl, refl)
 
-hi-value : HasValue largest false most (2 ^ 1074)
+hi-value : HasValue largestValue false most (2 ^ 1074)
 hi-value = (refl, refl)
 
 pub within-finite : (x : Float) → T (within x) → T (finite x)
@@ -120,7 +120,7 @@ within-size : (x : Float) (s : Bool) (a : ℕ) → HasValue x s a (2 ^ 1074) →
 unfolding within
 within-size x s a h t =
     le-trans
-    (size-within (2 ^ 1074) (pow-pos 1074) x lowest largest s a most h lo-value hi-value (and-l (le lowest x) (le x largest) t) (and-r (le lowest x) (le x largest) t))
+    (size-within (2 ^ 1074) (pow-pos 1074) x lowestValue largestValue s a most h lo-value hi-value (and-l (le lowestValue x) (le x largestValue) t) (and-r (le lowestValue x) (le x largestValue) t))
     (lit≤ tt)
 
 lower-le-midpoint : (x y : Float) → Measured x → Measured y → T (lt x y) → T (le x (midpointOf x y))

@@ -2,5 +2,10 @@
 pub mod Rounding
 pub mod Midpoint
 pub mod Law
-pub mod Parting
+pub mod Ways
 pub mod Zeros
+pub mod Compare
+pub mod Held
+pub mod Alike
+pub mod Keys
+pub mod Front

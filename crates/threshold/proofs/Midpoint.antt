@@ -10,7 +10,7 @@ use lib.Ieee.{Float, nan, inf, fin, Format, low, up, down, unlike, round, sum, a
 use lib.Ieee.Fits.{down-pos, two}
 use lib.Ieee.Exact.{HasValue}
 use lib.Ieee.Scale.{overflow, round-same}
-use Rattle.order.proofs.Compare.{ltb-same, left-cross, right-cross}
+use Rattle.threshold.proofs.Compare.{ltb-same, left-cross, right-cross}
 use Rattle.threshold.proofs.Rounding.{round-signed, whole, half}
 use Rattle.threshold.specs.Threshold as spec
 

@@ -12,7 +12,7 @@ use lib.Ieee.Fits.{down-pos, round-is}
 use lib.Ieee.Exact.{HasValue, odd-sign, units-val, round-exact}
 use lib.Ieee.Order.{drop, kept, round-mono}
 use lib.Ieee.Scale.{grid, overflow, finite, round-under, round-val}
-use Rattle.order.proofs.Compare.{le-places}
+use Rattle.threshold.proofs.Compare.{le-places}
 
 -- what is rounded, with either sign
 pub round-signed : (f : Format) (s : Bool) (a c : ℕ) → grid f a c < overflow f → HasValue (round f s a c) s (grid f a c) (2 ^ low f)

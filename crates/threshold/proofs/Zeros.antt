@@ -15,9 +15,9 @@ use lib.Ieee.Fits.{up-pos, down-pos}
 use lib.Ieee.Exact.{HasValue}
 use lib.Ieee.Scale.{grid, overflow, finite}
 use Rattle.basics.proofs.Choice.{same-bool}
-use Rattle.order.proofs.Compare.{lt-is}
-use Rattle.order.proofs.Held.{held}
-use Rattle.order.proofs.Alike.{Alike, alike, same, zeros, null, null-value, null-fits, same-value}
+use Rattle.threshold.proofs.Compare.{lt-is}
+use Rattle.threshold.proofs.Held.{held}
+use Rattle.threshold.proofs.Alike.{Alike, alike, same, zeros, null, null-value, null-fits, same-value}
 use Rattle.threshold.proofs.Rounding.{whole, half, grid-exact, half-exact, half-le, twice}
 use Rattle.threshold.proofs.Midpoint.{add-is, midpoint-is}
 use Rattle.threshold.specs.Threshold as spec

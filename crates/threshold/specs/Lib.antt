@@ -1,2 +1,4 @@
 pub mod Threshold
 pub mod Laws
+pub mod Order
+pub mod Column

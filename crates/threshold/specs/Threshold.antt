@@ -21,12 +21,12 @@ unfoldable pub goesLeft : Float → Float → Bool
 goesLeft value threshold = le value threshold
 
 -- 1,000,000,000,000 = 5 ^ 12 * 2 ^ 12, and its negative
-abbrev pub largest : Float
-largest = fin false 244140625 (pos 12)
+abbrev pub largestValue : Float
+largestValue = fin false 244140625 (pos 12)
 
-abbrev pub lowest : Float
-lowest = fin true 244140625 (pos 12)
+abbrev pub lowestValue : Float
+lowestValue = fin true 244140625 (pos 12)
 
 -- "finite, magnitude at most 1,000,000,000,000": neither a NaN nor an infinity is
 unfoldable pub within : Float → Bool
-within x = le lowest x && le x largest
+within x = le lowestValue x && le x largestValue

@@ -1,4 +1,7 @@
 // The threshold between two neighbouring values of a column, which way a value goes at it, and which values a sheet may hold.
+pub mod order;
+pub mod parting;
+
 ghost use mathlib.Core.Path.{_≡_};
 ghost use Rattle.threshold.specs.Threshold.{thresholdOf, goesLeft, within};
 

@@ -35,5 +35,5 @@ triedOf (Found tree tried) = some tried
 
 -- a side's error
 abbrev pub sideError : Side → ℕ
-sideError (Leaf label error) = error
-sideError (Split column threshold left right lost missed) = lost + missed
+sideError (Leaf leaf) = leaf .error
+sideError (Split question left right) = left .error + right .error

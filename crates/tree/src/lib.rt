@@ -1,29 +1,33 @@
 // A found rule's shape (tree/mod.rs), and what a search answers.
 
-// What a side of the first question answers: a leaf, or one question with a leaf on each of its own sides. `lost` and `missed` are the left and
-// the right leaf's errors.
+// "Is column c at most t?"
+pub struct Question {
+    pub column: usize,
+    pub threshold: f64,
+}
+
+// The label that the rows which come here are given, and how many of them have another.
+pub struct Leaf {
+    pub label: usize,
+    pub error: u32,
+}
+
+// What a side of the first question answers: a leaf, or one question more with a leaf on each of its own sides.
 pub enum Side {
-    Leaf {
-        label: usize,
-        error: u32,
-    },
+    Leaf(Leaf),
     Split {
-        column: usize,
-        threshold: f64,
-        left: usize,
-        right: usize,
-        lost: u32,
-        missed: u32,
+        question: Question,
+        left: Leaf,
+        right: Leaf,
     },
 }
 
 // The first question, its two sides, and the error of the whole.
 pub struct Tree {
-    pub error: u32,
-    pub column: usize,
-    pub threshold: f64,
+    pub question: Question,
     pub left: Side,
     pub right: Side,
+    pub error: u32,
 }
 
 // A sheet turned back, with the reason's number and its place; no rule better than the starting error; or the rule found.

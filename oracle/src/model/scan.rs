@@ -51,17 +51,6 @@ pub fn sides(sheet: &Sheet, root: usize, threshold: f64, marks: &mut Marks) -> [
     records.map(|record| finish(&record, marks))
 }
 
-/// Both sides at a cut of a column; none where there is no such cut.
-pub fn cut_sides(sheet: &Sheet, column: usize, cut: usize, marks: &mut Marks) -> Option<[Side; 2]> {
-    if column >= sheet.numbers.columns {
-        return None;
-    }
-    let places = sheet.places(column);
-    let upper = sheet.value_at(column, *places.get(cut)?);
-    let lower = sheet.value_at(column, if cut == 0 { 0 } else { places[cut - 1] });
-    Some(sides(sheet, column, threshold_between(lower, upper), marks))
-}
-
 /// "A side starts as a leaf: its commonest label, smallest code on ties; its score is that count."
 fn start(sheet: &Sheet, inside: &dyn Fn(usize) -> bool, marks: &mut Marks) -> Record {
     let labels = sheet.numbers.labels;

@@ -1,20 +1,14 @@
 //! The proved library's C functions, and what they owe of the words that they are lent.
-#[cfg(any(feature = "search", feature = "scan"))]
-use crate::answer::Side;
 #[cfg(feature = "search")]
-use crate::answer::{Answer, Tree};
+use crate::answer::{Answer, Side, Tree};
 use crate::port::Turned;
-#[cfg(feature = "scan")]
-use crate::port::{Cut, Scanned};
 use crate::sheet::Sheet;
-#[cfg(any(feature = "search", feature = "check", feature = "scan"))]
+#[cfg(any(feature = "search", feature = "check"))]
 use crate::sheet::SCRATCH_PER_ROW;
 
 #[cfg(feature = "search")]
 const WORDS: usize = 19;
-#[cfg(feature = "scan")]
-const SCAN_WORDS: usize = 15;
-#[cfg(any(feature = "search", feature = "scan"))]
+#[cfg(feature = "search")]
 const SIDE_WORDS: usize = 7;
 /// The words that the check and the preparer answer.
 const TURNED_WORDS: usize = 3;
@@ -55,9 +49,7 @@ of_a_sheet!(
     #[cfg(feature = "search")]
     finder_search,
     #[cfg(feature = "check")]
-    finder_check,
-    #[cfg(feature = "scan")]
-    finder_scan
+    finder_check
 );
 
 /// Calls one of them.
@@ -130,33 +122,8 @@ pub fn search(sheet: &Sheet, words: usize) -> Result<Answer, String> {
     Ok(answer)
 }
 
-/// The words of a scan of one cut.
-#[cfg(feature = "scan")]
-pub fn call_scan(sheet: &Sheet, cut: Cut, scratch: &mut [u32]) -> [u64; SCAN_WORDS] {
-    let [rows, columns, labels, support, gap, error, bound] = numbers(sheet);
-    let numbers = [rows, columns, labels, support, gap, error, bound, cut.column as u32, cut.number as u32, cut.times];
-    let mut answer = [u64::MAX; SCAN_WORDS];
-    asked!(finder_scan, numbers, sheet, scratch, answer);
-    answer
-}
-
-#[cfg(feature = "scan")]
-pub fn scan(sheet: &Sheet, cut: Cut, words: usize) -> Result<Scanned, String> {
-    let mut scratch = vec![FILL; words + PAST];
-    let answer = call_scan(sheet, cut, &mut scratch[..words]);
-    let scanned = match answer {
-        [0, number, place, rest @ ..] if rest == [0; SCAN_WORDS - TURNED_WORDS] => Err((number as u8, place as usize)),
-        [1, ..] => Ok([side(&answer[1..1 + SIDE_WORDS])?, side(&answer[1 + SIDE_WORDS..])?]),
-        _ => return Err(format!("no answer {answer:?}")),
-    };
-    // 0 is for a cut that is not there, of a sheet that the check lets through
-    let refused = scanned.err().map(|(number, _)| number).filter(|&number| number > 0);
-    owed(&scratch, sheet, refused)?;
-    Ok(scanned)
-}
-
 /// "After search reasons 1 to 4 scratch is untouched; after every other search call the first 8·rows words are 0 and the rest untouched."
-#[cfg(any(feature = "search", feature = "check", feature = "scan"))]
+#[cfg(any(feature = "search", feature = "check"))]
 fn owed(scratch: &[u32], sheet: &Sheet, number: Option<u8>) -> Result<(), String> {
     let untouched = number.is_some_and(|number| number <= UNTOUCHED);
     let cleared = if untouched { 0 } else { SCRATCH_PER_ROW * sheet.numbers.rows };
@@ -259,7 +226,7 @@ fn answer(words: &[u64; WORDS]) -> Result<Answer, String> {
     }
 }
 
-#[cfg(any(feature = "search", feature = "scan"))]
+#[cfg(feature = "search")]
 fn side(words: &[u64]) -> Result<Side, String> {
     let number = |at: usize| words[at] as usize;
     match words {

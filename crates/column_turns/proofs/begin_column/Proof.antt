@@ -6,7 +6,7 @@ use mathlib.Core.List.{_++_}
 use borrow.Author.Needs.{needs}
 use Rattle.column_turns.proofs.Queueing.{part-full}
 use Rattle.column_turns.proofs.Loop.{first-pushing, none-waits}
-use Rattle.cut_try.specs.Lent.{ringOf}
+use Rattle.column_turns.specs.Lent.{ringOf}
 use Rattle.interval_pruner.specs.declared.Tried.the-variants.{Nothing}
 use Rattle.column_turns.proofs.begin_column.Statement.{statement}
 use Rattle.column_turns.proofs.begin_column.Tie as tie
@@ -16,9 +16,6 @@ queue-part-requires c κs =
     let start = c .before .before in
     let a = start .args in
     first-pushing (a .rows) (a .first) (a .last) (a .scratch .now) (start .pre .0) (start .pre .1) (start .pre .2)
-
-same-length : tie.Need-same-length
-same-length c = search needs
 
 returns : tie.Need-returns
 returns c =
@@ -38,4 +35,4 @@ returns c =
     )
 
 pub begin-column-spec : {M : Type 1} → statement M
-begin-column-spec = tie.close (tie.spec queue-part-requires same-length returns)
+begin-column-spec = tie.close (tie.spec queue-part-requires (λ c. search needs) returns)

@@ -5,26 +5,14 @@ use native.Mathlib.Omega.{arith}
 use mathlib.Core.List.{List}
 use borrow.Author.Needs.{needs}
 use lib.Seq.{length-take-le}
-use Rattle.cut_try.specs.Lent.{tableOf}
-use Rattle.cut_try.proofs.Lent.{table-became, recorded-length}
+use Rattle.column_turns.specs.Lent.{tableOf}
+use Rattle.column_turns.proofs.Lent.{table-became, recorded-length}
 use Rattle.interval_pruner.specs.Pruner.{recordedAfter}
 use Rattle.column_turns.proofs.keep_errors.Statement.{statement}
 use Rattle.column_turns.proofs.keep_errors.Tie as tie
 
-mul-end : tie.Need-mul-end
-mul-end c = search needs
-
-slice-relend-prefix-add-result : tie.Need-slice-relend-prefix-add-result
-slice-relend-prefix-add-result c = search needs
-
 slice-aggregate-add-result : tie.Need-slice-aggregate-add-result
 slice-aggregate-add-result c = sym (length-take-le _ _ (omega (arith, c .before .before .pre .words)))
-
-add-result-requires : tie.Need-add-result-requires
-add-result-requires c κs = search needs
-
-same-length : tie.Need-same-length
-same-length c = search needs
 
 returns : tie.Need-returns
 unfolding tableOf
@@ -39,9 +27,4 @@ pub keep-errors-spec : {M : Type 1} → statement M
 keep-errors-spec =
     tie.close
     (tie.spec
-    mul-end
-    slice-relend-prefix-add-result
-    slice-aggregate-add-result
-    add-result-requires
-    same-length
-    returns)
+    (λ c. search needs) (λ c. search needs) slice-aggregate-add-result (λ c κs. search needs) (λ c. search needs) returns)

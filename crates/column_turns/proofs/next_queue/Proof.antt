@@ -8,7 +8,7 @@ use mathlib.Core.Bool.{Bool}
 use Rattle.basics.specs.Choice.{pick}
 use Rattle.interval_pruner.specs.declared.Bound.{Bound}
 use Rattle.interval_queue.specs.Ring.{contents}
-use Rattle.cut_try.specs.Lent.{ringOf}
+use Rattle.column_turns.specs.Lent.{ringOf}
 use Rattle.column_turns.specs.Parts.{partsQueued}
 use Rattle.column_turns.proofs.next_queue.Statement.{statement}
 use Rattle.column_turns.proofs.next_queue.Tie as tie
@@ -24,12 +24,6 @@ returns c =
       (record { head-in = start .pre .sane .head-in; few = omega arith }, record { size = refl; rest = refl; table-is = refl; ring-is = refl }),
     )
 
-queue-parts-requires : tie.Need-queue-parts-requires
-queue-parts-requires c κs = search needs
-
-same-length : tie.Need-same-length
-same-length c = search needs
-
 returns-2 : tie.Need-returns-2
 unfolding pick
 returns-2 c =
@@ -41,4 +35,4 @@ returns-2 c =
     (call .ensures .0 .contents-are ∙ sym (ap (λ (b : Bool). pick b [] all) (c .before .before .before .before .if1 .left)), (call .ensures .0 .sane, call .ensures .1))
 
 pub next-queue-spec : {M : Type 1} → statement M
-next-queue-spec = tie.close (tie.spec returns queue-parts-requires same-length returns-2)
+next-queue-spec = tie.close (tie.spec returns (λ c κs. search needs) (λ c. search needs) returns-2)

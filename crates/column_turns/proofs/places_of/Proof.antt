@@ -6,33 +6,6 @@ use Rattle.column_turns.proofs.Places.{places-part}
 use Rattle.column_turns.proofs.places_of.Statement.{statement}
 use Rattle.column_turns.proofs.places_of.Tie as tie
 
-mul-base : tie.Need-mul-base
-mul-base c = search needs
-
-mul-wide-entry : tie.Need-mul-wide-entry
-mul-wide-entry c = search needs
-
-shared-slice-read-wide-entry : tie.Need-shared-slice-read-wide-entry
-shared-slice-read-wide-entry c = search needs
-
-wide-entry-requires : tie.Need-wide-entry-requires
-wide-entry-requires c κs = search needs
-
-add-end : tie.Need-add-end
-add-end c = search needs
-
-mul-result : tie.Need-mul-result
-mul-result c = search needs
-
-sub-result : tie.Need-sub-result
-sub-result c = search needs
-
-part-result-start : tie.Need-part-result-start
-part-result-start c = search needs
-
-part-result-end : tie.Need-part-result-end
-part-result-end c = search needs
-
 returns : tie.Need-returns
 returns c values codes order =
     let start = c .before .before .before .before .before .before in
@@ -44,13 +17,5 @@ pub places-of-spec : {M : Type 1} → statement M
 places-of-spec =
     tie.close
     (tie.spec
-    mul-base
-    mul-wide-entry
-    shared-slice-read-wide-entry
-    wide-entry-requires
-    add-end
-    mul-result
-    sub-result
-    part-result-start
-    part-result-end
-    returns)
+    (λ c. search needs) (λ c. search needs) (λ c. search needs) (λ c κs. search needs) (λ c. search needs) (λ c. search needs) (λ c. search needs)
+    (λ c. search needs) (λ c. search needs) returns)

@@ -5,12 +5,6 @@ use Rattle.column_turns.proofs.Queueing.{part-pushed, none-queued, part
 use Rattle.column_turns.proofs.queue_part.Statement.{statement}
 use Rattle.column_turns.proofs.queue_part.Tie as tie
 
-add-interval-requires : tie.Need-add-interval-requires
-add-interval-requires c κs = search needs
-
-same-length : tie.Need-same-length
-same-length c = search needs
-
 returns : tie.Need-returns
 returns c =
     let start = c .before .before .before .before .before .before .before in
@@ -25,4 +19,4 @@ returns-2 c =
     none-queued (a .rows) (a .scratch .now) (a .queue) _ (start .pre .sane) (part-none (a .bound) (omega arith))
 
 pub queue-part-spec : {M : Type 1} → statement M
-queue-part-spec = tie.close (tie.spec add-interval-requires same-length returns returns-2)
+queue-part-spec = tie.close (tie.spec (λ c κs. search needs) (λ c. search needs) returns returns-2)

@@ -6,12 +6,12 @@ use mathlib.Core.List.{List, []}
 use borrow.Author.Needs.{needs}
 use Rattle.interval_pruner.specs.declared.Bound.{Bound}
 use Rattle.interval_pruner.specs.declared.Parts.{Parts}
-use Rattle.interval_pruner.specs.Column.{columnOf}
+use Rattle.interval_pruner.specs.Column.{recordedColumn}
 use Rattle.interval_pruner.specs.Pruner.{partsOf}
 use Rattle.column_search.specs.Search.{part, upperPart, lowerPart}
-use Rattle.cut_try.specs.Lent.{tableOf, ringOf, Became}
+use Rattle.column_turns.specs.Lent.{tableOf, ringOf, Became}
 use Rattle.column_turns.specs.Parts.{Pushing, Queued}
-use Rattle.cut_try.proofs.Lent.{became-then}
+use Rattle.column_turns.proofs.Lent.{became-then}
 use Rattle.column_turns.proofs.Queueing.{none-queued, both-queued, upper-pushing, lower-pushing, parts-none, parts-both}
 use Rattle.column_turns.proofs.queue_parts.Statement.{statement}
 use Rattle.column_turns.proofs.queue_parts.Tie as tie
@@ -22,20 +22,11 @@ returns c =
     let a = start .args in
     none-queued (a .rows) (a .scratch .now) (a .queue) _ (start .pre .sane) (parts-none (a .rows) (a .places .now) (a .zeros) (a .bound) (a .cut) (a .queue) (a .scratch .now) (start .pre) (a .reach .gap) (a .reach .small) (a .reach .excess) (c .if1 .taken))
 
-neighbourhood-pruning-requires : tie.Need-neighbourhood-pruning-requires
-neighbourhood-pruning-requires c κs = search needs
-
-upper-part-requires : tie.Need-upper-part-requires
-upper-part-requires c κs = search needs
-
-lower-part-requires : tie.Need-lower-part-requires
-lower-part-requires c κs = search needs
-
 queue-part-requires : tie.Need-queue-part-requires
 queue-part-requires c κs =
     let start = c .before .before .before .before .before .before .before .before in
     let a = start .args in
-    let p : Parts = partsOf (columnOf (a .places .now) [] (a .reach .gap) (a .reach .small)) (a .zeros) (a .reach .excess) (a .cut) (a .bound .first) in
+    let p : Parts = partsOf (recordedColumn (a .places .now) [] (a .reach .gap) (a .reach .small)) (a .zeros) (a .reach .excess) (a .cut) (a .bound .first) in
     let e = c .before .before .before .neighbourhood-pruning .ensures (record { ascending = start .pre .ascending; cut = omega (arith, start .pre .to-last, start .pre .till); zero = start .pre .zero }) in
     let upper = c .before .before .upper-part .ensures ∙ ap (λ (z : Parts). upperPart (a .bound) (a .cut) (z .upper)) e in
     subst (Pushing (a .rows) (a .scratch .now) (a .queue)) (sym upper) (upper-pushing (a .rows) (a .places .now) (a .zeros) (a .bound) (a .cut) (a .queue) (a .scratch .now) (start .pre) (a .reach .gap) (a .reach .small) (a .reach .excess))
@@ -44,7 +35,7 @@ queue-part-requires-2 : tie.Need-queue-part-requires-2
 queue-part-requires-2 c κs =
     let start = c .before .before .before .before .before .before .before .before .before .before .before .before in
     let a = start .args in
-    let p : Parts = partsOf (columnOf (a .places .now) [] (a .reach .gap) (a .reach .small)) (a .zeros) (a .reach .excess) (a .cut) (a .bound .first) in
+    let p : Parts = partsOf (recordedColumn (a .places .now) [] (a .reach .gap) (a .reach .small)) (a .zeros) (a .reach .excess) (a .cut) (a .bound .first) in
     let e = c .before .before .before .before .before .before .before .neighbourhood-pruning .ensures (record { ascending = start .pre .ascending; cut = omega (arith, start .pre .to-last, start .pre .till); zero = start .pre .zero }) in
     let upper = c .before .before .before .before .before .before .upper-part .ensures ∙ ap (λ (z : Parts). upperPart (a .bound) (a .cut) (z .upper)) e in
     let lower = c .before .before .before .before .before .lower-part .ensures ∙ ap (λ (z : Parts). lowerPart (a .bound) (a .cut) (z .lower)) e in
@@ -54,14 +45,11 @@ queue-part-requires-2 c κs =
     subst (λ (z : Bound). Queued (a .rows) (a .scratch .now) ys (a .queue) (call .result) (part z)) upper (call .ensures .0) in
     subst (Pushing (a .rows) ys (call .result)) (sym lower) (lower-pushing (a .rows) (a .places .now) (a .zeros) (a .bound) (a .cut) (a .queue) (a .scratch .now) (start .pre) (a .reach .gap) (a .reach .small) (a .reach .excess) ys (call .result) first (call .ensures .1))
 
-same-length : tie.Need-same-length
-same-length c = search needs
-
 returns-2 : tie.Need-returns-2
 returns-2 c =
     let start = c .before .before .before .before .before .before .before .before .before .before .before .before .before .before .before in
     let a = start .args in
-    let p : Parts = partsOf (columnOf (a .places .now) [] (a .reach .gap) (a .reach .small)) (a .zeros) (a .reach .excess) (a .cut) (a .bound .first) in
+    let p : Parts = partsOf (recordedColumn (a .places .now) [] (a .reach .gap) (a .reach .small)) (a .zeros) (a .reach .excess) (a .cut) (a .bound .first) in
     let e = c .before .before .before .before .before .before .before .before .before .before .neighbourhood-pruning .ensures (record { ascending = start .pre .ascending; cut = omega (arith, start .pre .to-last, start .pre .till); zero = start .pre .zero }) in
     let upper = c .before .before .before .before .before .before .before .before .before .upper-part .ensures ∙ ap (λ (z : Parts). upperPart (a .bound) (a .cut) (z .upper)) e in
     let lower = c .before .before .before .before .before .before .before .before .lower-part .ensures ∙ ap (λ (z : Parts). lowerPart (a .bound) (a .cut) (z .lower)) e in
@@ -82,11 +70,5 @@ pub queue-parts-spec : {M : Type 1} → statement M
 queue-parts-spec =
     tie.close
     (tie.spec
-    returns
-    neighbourhood-pruning-requires
-    upper-part-requires
-    lower-part-requires
-    queue-part-requires
-    queue-part-requires-2
-    same-length
+    returns (λ c κs. search needs) (λ c κs. search needs) (λ c κs. search needs) queue-part-requires queue-part-requires-2 (λ c. search needs)
     returns-2)

@@ -7,13 +7,13 @@ use Rattle.basics.specs.Lists.{total}
 use Rattle.sheet.specs.Check.{sheetOf}
 use Rattle.interval_queue.specs.Ring.{contents}
 use Rattle.column_search.specs.Loop.{weight}
-use Rattle.cut_try.specs.Lent.{tableOf, ringOf, Became}
+use Rattle.column_turns.specs.Lent.{tableOf, ringOf, Became}
 use Rattle.column_turns.specs.Course.{Stands, standingAfter, Opened, firstAt, lastAt, Begun}
 use Rattle.sheet.specs.Sheet.{Sheet}
 use Rattle.column_search.specs.Search.{columnRun}
-use Rattle.interval_steps.specs.declared.Standing.{Standing}
-use Rattle.cut_try.specs.Try.{columnOf}
-use Rattle.cut_try.proofs.Lent.{became-then}
+use Rattle.column_turns.specs.declared.interval_steps.Standing.{Standing}
+use Rattle.column_turns.specs.Try.{searchedColumn}
+use Rattle.column_turns.proofs.Lent.{became-then}
 use Rattle.column_turns.proofs.Turns.{end-listed}
 use Rattle.column_turns.proofs.Loop.{opened-stands, stands-done, begun-after}
 use Rattle.interval_pruner.specs.declared.Tried.the-variants.{Nothing}
@@ -108,7 +108,7 @@ returns c =
     let same = opened .ensures .0 .standing-is in (
       stands-done s (a .terms) (a .column) (opened .result .standing) (loop .scratch) (loop .course) begun (loop .inv .0) (omega arith)
           ∙ (λ k. standingAfter s (a .terms .support) (a .column) (same k)
-          (columnRun (columnOf s (a .terms) (a .column)) (a .terms .bound) (sym (pre .first-is) k) (sym (pre .last-is) k) (same k .error))),
+          (columnRun (searchedColumn s (a .terms) (a .column)) (a .terms .bound) (sym (pre .first-is) k) (sym (pre .last-is) k) (same k .error))),
       after,
     )
 
@@ -116,12 +116,4 @@ pub run-column-spec : {M : Type 1} → statement M
 run-column-spec =
     tie.close
     (tie.spec
-    Inv-loop
-    μ-loop
-    begin-column-requires
-    loop-holds
-    turn-requires
-    loop-less
-    loop-again
-    same-length
-    returns)
+    Inv-loop μ-loop begin-column-requires loop-holds turn-requires loop-less loop-again same-length returns)

@@ -9,7 +9,7 @@ use Rattle.cuts.specs.declared.Run.{Run}
 use Rattle.cuts.specs.Lookups.{Ascending}
 use Rattle.cuts.specs.Feasible.{feasibleOf}
 use Rattle.column_search.specs.Search.{columnRun}
-use Rattle.cut_try.specs.Try.{columnOf}
+use Rattle.column_turns.specs.Try.{searchedColumn}
 use Rattle.column_turns.specs.Course.{feasibleAt, standingAfter}
 use Rattle.column_turns.proofs.Places.{placed-in, places-ascend}
 use Rattle.column_turns.proofs.Loop.{column-none, column-some}
@@ -21,12 +21,6 @@ places-of-requires c κs =
     let start = c .before .before .before .before .before .before in
     let a = start .args in
     placed-in (a .size) (a .values .now) (a .codes .now) (a .order .now) (a .cuts .now) (a .counts .now) (a .column) (start .pre .whole) (start .pre .here)
-
-wide-word-requires : tie.Need-wide-word-requires
-wide-word-requires c κs = search needs
-
-support-feasible-splits-requires : tie.Need-support-feasible-splits-requires
-support-feasible-splits-requires c κs = search needs
 
 returns : tie.Need-returns
 returns c =
@@ -42,9 +36,6 @@ returns c =
       column-none s (a .terms) (a .column) (a .standing) (omega (arith, ap (λ (z : Run). z .first) f, ap (λ (z : Run). z .end) f, c .if1 .taken)),
       record { size = refl; rest = refl; table-is = refl; ring-is = refl },
     )
-
-sub-run-column : tie.Need-sub-run-column
-sub-run-column c = search needs
 
 run-column-requires : tie.Need-run-column-requires
 run-column-requires c κs =
@@ -70,9 +61,6 @@ run-column-requires c κs =
       few = pre .few;
     }
 
-same-length : tie.Need-same-length
-same-length c = search needs
-
 returns-2 : tie.Need-returns-2
 returns-2 c =
     let start = c .before .before .before .before .before .before .before .before .before .before .before .before .before .before .before .before in
@@ -87,7 +75,7 @@ returns-2 c =
     let call = c .before .before .run-column in (
       call .ensures .0
           ∙ (λ k. standingAfter s (a .terms .support) (a .column) (a .standing)
-          (columnRun (columnOf s (a .terms) (a .column)) (a .terms .bound) (f k .first) (f k .end - 1) (a .standing .error)))
+          (columnRun (searchedColumn s (a .terms) (a .column)) (a .terms .bound) (f k .first) (f k .end - 1) (a .standing .error)))
           ∙ column-some s (a .terms) (a .column) (a .standing) (omega (arith, ap (λ (z : Run). z .first) f, ap (λ (z : Run). z .end) f, c .before .before .before .before .before .if1 .left)),
       call .ensures .1,
     )
@@ -96,11 +84,4 @@ pub search-column-spec : {M : Type 1} → statement M
 search-column-spec =
     tie.close
     (tie.spec
-    places-of-requires
-    wide-word-requires
-    support-feasible-splits-requires
-    returns
-    sub-run-column
-    run-column-requires
-    same-length
-    returns-2)
+    places-of-requires (λ c κs. search needs) (λ c κs. search needs) returns (λ c. search needs) run-column-requires (λ c. search needs) returns-2)

@@ -6,13 +6,10 @@ use Rattle.tree.specs.declared.Tree.{Tree}
 use Rattle.tree.specs.Answer.{sideError}
 use Rattle.leaves_score.specs.Root.{errorsAt}
 use Rattle.interval_pruner.specs.Pruner.{zerosAfter, recordedAfter}
-use Rattle.cut_try.specs.Try.{triedTree, treeAt}
-use Rattle.cut_try.proofs.Try.{tried-few}
+use Rattle.column_turns.specs.Try.{triedTree, treeAt}
+use Rattle.column_turns.proofs.Try.{tried-few}
 use Rattle.column_turns.proofs.try_and_keep.Statement.{statement}
 use Rattle.column_turns.proofs.try_and_keep.Tie as tie
-
-try-cut-requires : tie.Need-try-cut-requires
-try-cut-requires c κs = search needs
 
 side-error-requires : tie.Need-side-error-requires
 unfolding triedTree treeAt
@@ -27,12 +24,6 @@ side-error-requires-2 c κs =
     let start = c .before .before .before .before .before .before .before .before .before .before in
     let a = start .args in
     omega (arith, tried-few (a .size) (a .values .now) (a .codes .now) (a .order .now) (a .cuts .now) (a .at .column) (a .at .cut) (a .scratch .now) (start .pre) (a .support), ap (λ (z : Tree). sideError (z .right)) (c .before .before .before .try-cut .ensures .0 (start .pre .counts)), start .pre .enough .few)
-
-keep-errors-requires : tie.Need-keep-errors-requires
-keep-errors-requires c κs = search needs
-
-same-length : tie.Need-same-length
-same-length c = search needs
 
 returns : tie.Need-returns
 unfolding triedTree treeAt errorsAt
@@ -59,9 +50,4 @@ pub try-and-keep-spec : {M : Type 1} → statement M
 try-and-keep-spec =
     tie.close
     (tie.spec
-    try-cut-requires
-    side-error-requires
-    side-error-requires-2
-    keep-errors-requires
-    same-length
-    returns)
+    (λ c κs. search needs) side-error-requires side-error-requires-2 (λ c κs. search needs) (λ c. search needs) returns)

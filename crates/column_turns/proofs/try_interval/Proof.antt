@@ -8,11 +8,11 @@ use Rattle.basics.specs.Choice.{pick}
 use Rattle.sheet.specs.Check.{sheetOf}
 use Rattle.interval_queue.specs.Ring.{contents}
 use Rattle.column_search.specs.Search.{middle, tryCut}
-use Rattle.interval_steps.specs.declared.Standing.{Standing}
-use Rattle.cut_try.specs.Lent.{ringOf}
-use Rattle.cut_try.specs.Try.{columnOf}
-use Rattle.interval_steps.specs.Steps.{reachOf}
-use Rattle.column_turns.specs.Parts.{Parting, partsQueued}
+use Rattle.column_turns.specs.declared.interval_steps.Standing.{Standing}
+use Rattle.column_turns.specs.Lent.{ringOf}
+use Rattle.column_turns.specs.Try.{searchedColumn}
+use Rattle.column_turns.specs.Steps.{reachOf}
+use Rattle.column_turns.specs.Parts.{PartsWaiting, partsQueued}
 use Rattle.column_turns.specs.Course.{Matches}
 use Rattle.column_turns.proofs.Places.{placed-in}
 use Rattle.column_turns.proofs.Steps.{matches-next}
@@ -32,15 +32,6 @@ try-and-keep-requires c κs =
     let a = start .args in
     to-try (a .size) (a .values .now) (a .codes .now) (a .order .now) (a .cuts .now) (a .counts .now) (a .terms) (a .column) (a .scratch .now) (a .course) (a .bound) (start .pre)
 
-improved-requires : tie.Need-improved-requires
-improved-requires c κs = search needs
-
-ends-column-requires : tie.Need-ends-column-requires
-ends-column-requires c κs = search needs
-
-reach-of-requires : tie.Need-reach-of-requires
-reach-of-requires c κs = search needs
-
 places-of-requires : tie.Need-places-of-requires
 places-of-requires c κs =
     let start = c .before .before .before .before .before .before .before .before .before .before .before .before .before .before .before .before .before .before .before in
@@ -53,12 +44,9 @@ next-queue-requires c κs =
     let a = start .args in
     let tried = c .before .before .before .before .before .before .before .before .before .try-and-keep in
     let ys : List ℕ = tried .last .1 .1 .1 .1 .1 .1 .1 .1 .0 in
-    subst (λ (l : List ℕ). Parting (a .size .rows) l (tried .result .zeros) (a .bound) (middle (a .bound)) (a .course .queue) ys)
+    subst (λ (l : List ℕ). PartsWaiting (a .size .rows) l (tried .result .zeros) (a .bound) (middle (a .bound)) (a .course .queue) ys)
     (sym (c .before .places-of .ensures (a .values .now) (a .codes .now) (a .order .now)))
     (to-part (a .size) (a .values .now) (a .codes .now) (a .order .now) (a .cuts .now) (a .counts .now) (a .terms) (a .column) (a .scratch .now) (a .course) (a .bound) (start .pre) ys (tried .result) (tried .ensures (a .counts .now)))
-
-same-length : tie.Need-same-length
-same-length c = search needs
 
 returns : tie.Need-returns
 returns c =
@@ -78,7 +66,7 @@ returns c =
     ++ partsQueued (places k) (reach k .gap) (reach k .small) (tried .result .zeros) (reach k .excess) (middle (a .bound)) (a .bound))) in (
       (λ p state matches.
           subst (λ (z : Standing). Matches (sheetOf (a .size) (a .values .now) (a .codes .now) (a .order .now) (a .cuts .now) (a .counts .now)) (a .terms) (a .column) p zs (record { standing = z; zeros = tried .result .zeros; queue = call .result })
-          (tryCut (columnOf (sheetOf (a .size) (a .values .now) (a .codes .now) (a .order .now) (a .cuts .now) (a .counts .now)) (a .terms) (a .column)) (a .terms .bound) state (state .queue) (a .bound))) (sym next)
+          (tryCut (searchedColumn (sheetOf (a .size) (a .values .now) (a .codes .now) (a .order .now) (a .cuts .now) (a .counts .now)) (a .terms) (a .column)) (a .terms .bound) state (state .queue) (a .bound))) (sym next)
           (matches-next (sheetOf (a .size) (a .values .now) (a .codes .now) (a .order .now) (a .cuts .now) (a .counts .now)) (a .terms) (a .column) p (a .scratch .now) ys zs (a .course) state (a .bound) (tried .result) (call .result)
           (start .pre .enough) (middle-row (a .size) (a .values .now) (a .codes .now) (a .order .now) (a .cuts .now) (a .counts .now) (a .terms) (a .column) (a .scratch .now) (a .course) (a .bound) (start .pre)) matches attempted (call .ensures .1 .1) waiting (call .ensures .1 .0))),
       record { size = call .ensures .1 .1 .size ∙ attempted .lent .size; rest = call .ensures .1 .1 .rest ∙ attempted .lent .rest; table-is = refl; ring-is = refl },
@@ -88,12 +76,5 @@ pub try-interval-spec : {M : Type 1} → statement M
 try-interval-spec =
     tie.close
     (tie.spec
-    add-cut
-    try-and-keep-requires
-    improved-requires
-    ends-column-requires
-    reach-of-requires
-    places-of-requires
-    next-queue-requires
-    same-length
-    returns)
+    add-cut try-and-keep-requires (λ c κs. search needs) (λ c κs. search needs) (λ c κs. search needs) places-of-requires next-queue-requires
+    (λ c. search needs) returns)

@@ -11,12 +11,6 @@ use Rattle.column_turns.proofs.Turns.{after-none, after-some}
 use Rattle.column_turns.proofs.try_shrunk.Statement.{statement}
 use Rattle.column_turns.proofs.try_shrunk.Tie as tie
 
-enum-known-shrunk : tie.Need-enum-known-shrunk
-enum-known-shrunk c = search needs
-
-enum-told : tie.Need-enum-told
-enum-told c = search needs
-
 returns : tie.Need-returns
 returns c =
     let a = c .before .before .before .before .before .before .before .before .args in
@@ -32,9 +26,6 @@ try-interval-requires c κs =
     let s : Sheet = sheetOf (a .size) (a .values .now) (a .codes .now) (a .order .now) (a .cuts .now) (a .counts .now) in
     subst (IfTo (Attempting s (a .terms) (a .column) (a .scratch .now) (a .course))) (c .before .before .shrunk .given .1) (start .pre)
 
-same-length : tie.Need-same-length
-same-length c = search needs
-
 returns-2 : tie.Need-returns-2
 returns-2 c =
     let a = c .before .before .before .before .before .before .before .before .before .before .before .before .before .args in
@@ -48,9 +39,4 @@ pub try-shrunk-spec : {M : Type 1} → statement M
 try-shrunk-spec =
     tie.close
     (tie.spec
-    enum-known-shrunk
-    enum-told
-    returns
-    try-interval-requires
-    same-length
-    returns-2)
+    (λ c. search needs) (λ c. search needs) returns try-interval-requires (λ c. search needs) returns-2)

@@ -13,26 +13,20 @@ use Rattle.interval_pruner.specs.Column as column
 use Rattle.interval_queue.specs.Ring.{contents}
 use Rattle.column_search.specs.Search.{dropped}
 use Rattle.column_search.specs.Loop.{weight}
-use Rattle.interval_steps.specs.declared.Standing.{Standing}
+use Rattle.column_turns.specs.declared.interval_steps.Standing.{Standing}
 use Rattle.column_turns.specs.declared.Course.{Course}
-use Rattle.cut_try.specs.Lent.{tableOf, ringOf}
-use Rattle.interval_steps.specs.Steps.{prunedOf}
+use Rattle.column_turns.specs.Lent.{tableOf, ringOf}
+use Rattle.column_turns.specs.Steps.{prunedOf}
 use Rattle.column_turns.specs.Course.{Stands}
 use Rattle.column_turns.proofs.Turns.{pruned-is, stands-next, without-first, attempting-left}
 use Rattle.column_turns.proofs.turn.Statement.{statement}
 use Rattle.column_turns.proofs.turn.Tie as tie
-
-next-interval-requires : tie.Need-next-interval-requires
-next-interval-requires c κs = search needs
 
 places-of-requires : tie.Need-places-of-requires
 places-of-requires c κs =
     let start = c .before .before .before .before .before .before .before .before .before .before in
     let a = start .args in
     placed-in (a .size) (a .values .now) (a .codes .now) (a .order .now) (a .cuts .now) (a .counts .now) (a .column) (start .pre .begun .whole) (start .pre .begun .here)
-
-prune-requires : tie.Need-prune-requires
-prune-requires c κs = search needs
 
 try-shrunk-requires : tie.Need-try-shrunk-requires
 try-shrunk-requires c κs =
@@ -46,12 +40,9 @@ try-shrunk-requires c κs =
     let places = c .before .before .before .before .places-of .ensures (a .values .now) (a .codes .now) (a .order .now) in
     let pruned = c .before .before .prune in
     let code = pruned .ensures (subst Ascending (sym places) (places-ascend s (pre .begun .whole) (a .column) (pre .begun .here)))
-    ∙ (λ k. prunedOf (column.columnOf (places k) (tableOf (a .size .rows) xs) (a .terms .gap) (leb (a .terms .support) 1)) (course .zeros) (min (course .standing .error) (a .terms .bound)) (taken .result .bound)) in
+    ∙ (λ k. prunedOf (column.recordedColumn (places k) (tableOf (a .size .rows) xs) (a .terms .gap) (leb (a .terms .support) 1)) (course .zeros) (min (course .standing .error) (a .terms .bound)) (taken .result .bound)) in
     let e = sym (pruned-is s (a .terms) (a .column) xs course (pre .begun) (pre .waits) (pre .from) (pre .stands) (taken .result .bound) (taken .result .queue) (taken .ensures)) ∙ sym code in
     attempting-left s (a .terms) (a .column) xs course (pre .begun) (pre .waits) (pre .from) (pre .stands) (taken .result .bound) (taken .result .queue) (taken .ensures) (pre .few) (pruned .result) e
-
-same-length : tie.Need-same-length
-same-length c = search needs
 
 returns : tie.Need-returns
 returns c =
@@ -65,7 +56,7 @@ returns c =
     let places = c .before .before .before .before .before .before .before .places-of .ensures (a .values .now) (a .codes .now) (a .order .now) in
     let pruned = c .before .before .before .before .before .prune in
     let code = pruned .ensures (subst Ascending (sym places) (places-ascend s (pre .begun .whole) (a .column) (pre .begun .here)))
-    ∙ (λ k. prunedOf (column.columnOf (places k) (tableOf (a .size .rows) xs) (a .terms .gap) (leb (a .terms .support) 1)) (course .zeros) (min (course .standing .error) (a .terms .bound)) (taken .result .bound)) in
+    ∙ (λ k. prunedOf (column.recordedColumn (places k) (tableOf (a .size .rows) xs) (a .terms .gap) (leb (a .terms .support) 1)) (course .zeros) (min (course .standing .error) (a .terms .bound)) (taken .result .bound)) in
     let tried = c .before .before .try-shrunk in
     let zs : List ℕ = tried .last .1 .1 .1 .1 .1 .1 .1 .1 .1 .1 .0 in
     let same : (p : Standing) (stands : Stands s (a .terms) (a .column) p xs course)
@@ -82,9 +73,4 @@ pub turn-spec : {M : Type 1} → statement M
 turn-spec =
     tie.close
     (tie.spec
-    next-interval-requires
-    places-of-requires
-    prune-requires
-    try-shrunk-requires
-    same-length
-    returns)
+    (λ c κs. search needs) places-of-requires (λ c κs. search needs) try-shrunk-requires (λ c. search needs) returns)

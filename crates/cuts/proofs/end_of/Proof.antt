@@ -17,9 +17,6 @@ returns c =
     let a = c .before .args in
     sym (pick-false _ _ (length (a .cuts .now)) (le→nltb (a .first) (a .last) (c .if1 .taken)))
 
-add-result : tie.Need-add-result
-add-result c = search needs
-
 returns-2 : tie.Need-returns-2
 unfolding endOf
 returns-2 c =
@@ -35,4 +32,4 @@ returns-3 c =
     sym (pick-true _ _ _ (lt→ltb (a .first) (a .last) (c .before .if1 .left)) ∙ e)
 
 pub end-of-spec : {M : Type 1} → statement M
-end-of-spec = tie.close (tie.spec returns add-result returns-2 returns-3)
+end-of-spec = tie.close (tie.spec returns (λ c. search needs) returns-2 returns-3)

@@ -64,35 +64,11 @@ loop-holds : tie.Need-loop-holds Inv-loop μ-loop
 loop-holds c =
     record { left = omega arith; order = omega arith; right = omega arith; before = λ up k p q. omega arith; after = λ up k p q. omega arith }
 
-sub-middle : tie.Need-sub-middle Inv-loop μ-loop
-sub-middle c = search needs
-
-add-middle : tie.Need-add-middle Inv-loop μ-loop
-add-middle c = search needs
-
-mul-wide-entry : tie.Need-mul-wide-entry Inv-loop μ-loop
-mul-wide-entry c = search needs
-
-shared-slice-read-wide-entry : tie.Need-shared-slice-read-wide-entry Inv-loop μ-loop
-shared-slice-read-wide-entry c = search needs
-
-wide-entry-requires : tie.Need-wide-entry-requires Inv-loop μ-loop
-wide-entry-requires c κs = search needs
-
-loop-less : tie.Need-loop-less Inv-loop μ-loop
-loop-less c = search needs
-
 loop-again : tie.Need-loop-again Inv-loop μ-loop
 unfolding place
 loop-again c =
     let p = c .before .before .before .before in
     down (p .before .before .pre) (p .loop .inv) _ (omega arith) (omega arith) (omega (arith, c .before .wide-entry .ensures, c .if1 .taken))
-
-add-from : tie.Need-add-from Inv-loop μ-loop
-add-from c = search needs
-
-loop-less-2 : tie.Need-loop-less-2 Inv-loop μ-loop
-loop-less-2 c = search needs
 
 loop-again-2 : tie.Need-loop-again-2 Inv-loop μ-loop
 unfolding place
@@ -112,17 +88,5 @@ pub first-above-spec : {M : Type 1} → statement M
 first-above-spec =
     tie.close
     (tie.spec
-    Inv-loop
-    μ-loop
-    loop-holds
-    sub-middle
-    add-middle
-    mul-wide-entry
-    shared-slice-read-wide-entry
-    wide-entry-requires
-    loop-less
-    loop-again
-    add-from
-    loop-less-2
-    loop-again-2
-    returns)
+    Inv-loop μ-loop loop-holds (λ c. search needs) (λ c. search needs) (λ c. search needs) (λ c. search needs) (λ c κs. search needs)
+    (λ c. search needs) loop-again (λ c. search needs) (λ c. search needs) loop-again-2 returns)

@@ -7,15 +7,6 @@ use Rattle.cuts.specs.Lookups.{place}
 use Rattle.cuts.proofs.place_at.Statement.{statement}
 use Rattle.cuts.proofs.place_at.Tie as tie
 
-mul-wide-entry : tie.Need-mul-wide-entry
-mul-wide-entry c = search needs
-
-shared-slice-read-wide-entry : tie.Need-shared-slice-read-wide-entry
-shared-slice-read-wide-entry c = search needs
-
-wide-entry-requires : tie.Need-wide-entry-requires
-wide-entry-requires c κs = search needs
-
 returns : tie.Need-returns
 unfolding place
 returns c = search needs
@@ -28,4 +19,4 @@ returns-2 c =
 
 pub place-at-spec : {M : Type 1} → statement M
 place-at-spec =
-    tie.close (tie.spec mul-wide-entry shared-slice-read-wide-entry wide-entry-requires returns returns-2)
+    tie.close (tie.spec (λ c. search needs) (λ c. search needs) (λ c κs. search needs) returns returns-2)

@@ -10,9 +10,6 @@ use Rattle.cuts.proofs.Lookups.{end-high}
 use Rattle.cuts.proofs.sought_above.Statement.{statement}
 use Rattle.cuts.proofs.sought_above.Tie as tie
 
-end-of-requires : tie.Need-end-of-requires
-end-of-requires c κs = search needs
-
 first-above-requires : tie.Need-first-above-requires
 first-above-requires c κs =
     let a = c .before .before .args in
@@ -30,4 +27,4 @@ returns c =
     ((f .0 .0, omega (arith, f .0 .1, e)), λ up. f .1 up ∙ same _ _ _ _ _ e)
 
 pub sought-above-spec : {M : Type 1} → statement M
-sought-above-spec = tie.close (tie.spec end-of-requires first-above-requires returns)
+sought-above-spec = tie.close (tie.spec (λ c κs. search needs) first-above-requires returns)

@@ -29,12 +29,6 @@ module _ (places : List ℕ) (first last value : ℕ) where
 returns : tie.Need-returns
 returns c = ((omega arith, omega arith), λ up. at-zero _ _ _ _ (c .if1 .taken))
 
-sub-below : tie.Need-sub-below
-sub-below c = search needs
-
-end-of-requires : tie.Need-end-of-requires
-end-of-requires c κs = search needs
-
 first-above-requires : tie.Need-first-above-requires
 first-above-requires c κs =
     let a = c .before .before .before .args in
@@ -48,4 +42,4 @@ returns-2 c =
 
 pub sought-at-spec : {M : Type 1} → statement M
 sought-at-spec =
-    tie.close (tie.spec returns sub-below end-of-requires first-above-requires returns-2)
+    tie.close (tie.spec returns (λ c. search needs) (λ c κs. search needs) first-above-requires returns-2)

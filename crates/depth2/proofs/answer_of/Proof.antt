@@ -5,12 +5,6 @@ use Rattle.depth2.specs.Columns.{answerHeld}
 use Rattle.depth2.proofs.answer_of.Statement.{statement}
 use Rattle.depth2.proofs.answer_of.Tie as tie
 
-enum-told : tie.Need-enum-told
-enum-told c = search needs
-
-enum-known-held : tie.Need-enum-known-held
-enum-known-held c = search needs
-
 returns : tie.Need-returns
 unfolding answerHeld
 returns c = sym (ap (answerHeld (c .before .before .args .standing .error) (c .before .before .args .standing .tried)) (c .enum-told .given .1))
@@ -22,4 +16,4 @@ returns-2 c =
     sym (ap (answerHeld (a .standing .error) (a .standing .tried)) (c .before .held .given .1))
 
 pub answer-of-spec : {M : Type 1} → statement M
-answer-of-spec = tie.close (tie.spec enum-told enum-known-held returns returns-2)
+answer-of-spec = tie.close (tie.spec (λ c. search needs) (λ c. search needs) returns returns-2)

@@ -8,19 +8,10 @@ use borrow.Author.Needs.{needs}
 use Rattle.sheet.specs.declared.Checked.{Checked}
 use Rattle.sheet.specs.Sheet.{Sheet}
 use Rattle.sheet.specs.Check.{sheetOf, scratchAfter}
-use Rattle.cut_try.proofs.Accepted.{accepted-whole, still-enough, cleared-again}
+use Rattle.column_turns.proofs.Accepted.{accepted-whole, still-enough, cleared-again}
 use Rattle.depth2.proofs.Answer.{found-answer, refused}
 use Rattle.depth2.proofs.search.Statement.{statement}
 use Rattle.depth2.proofs.search.Tie as tie
-
-check-requires : tie.Need-check-requires
-check-requires c κs = search needs
-
-enum-known-checked : tie.Need-enum-known-checked
-enum-known-checked c = search needs
-
-enum-told : tie.Need-enum-told
-enum-told c = search needs
 
 search-columns-requires : tie.Need-search-columns-requires
 search-columns-requires c κs =
@@ -31,8 +22,8 @@ search-columns-requires c κs =
     let check = c .before .before .before .before .before .check in
     let ys : List ℕ = check .last .1 .1 .1 .1 .1 .1 .1 .0 in
     let told = c .before .enum-told .given .1 in
-    let fit = accepted-whole s (a .terms) xs (c .before .before .before .before .before .before .before .before .before .before .before .before .shared-slice-known .given) (sym (check .ensures .0) ∙ told) in
-    let enough = still-enough s (a .terms) xs ys (check .result) (check .ensures .0) told (check .ensures .1) (fit .1) in
+    let fit = accepted-whole s (a .terms) xs (c .before .before .before .before .before .before .before .before .before .before .before .before .shared-slice-known .given) (sym (check .ensures .answers) ∙ told) in
+    let enough = still-enough s (a .terms) xs ys (check .result) (check .ensures .answers) told (check .ensures .words) (fit .1) in
     (fit .0, enough)
 
 mul-words : tie.Need-mul-words
@@ -44,8 +35,8 @@ mul-words c =
     let check = c .before .before .before .before .before .before .before .before .before .check in
     let ys : List ℕ = check .last .1 .1 .1 .1 .1 .1 .1 .0 in
     let told = c .before .before .before .before .before .enum-told .given .1 in
-    let fit = accepted-whole s (a .terms) xs (c .before .before .before .before .before .before .before .before .before .before .before .before .before .before .before .before .shared-slice-known .given) (sym (check .ensures .0) ∙ told) in
-    let enough = still-enough s (a .terms) xs ys (check .result) (check .ensures .0) told (check .ensures .1) (fit .1) in
+    let fit = accepted-whole s (a .terms) xs (c .before .before .before .before .before .before .before .before .before .before .before .before .before .before .before .before .shared-slice-known .given) (sym (check .ensures .answers) ∙ told) in
+    let enough = still-enough s (a .terms) xs ys (check .result) (check .ensures .answers) told (check .ensures .words) (fit .1) in
     record { fits = omega (arith, fit .1 .few) }
 
 clear-requires : tie.Need-clear-requires
@@ -57,15 +48,9 @@ clear-requires c κs =
     let check = c .before .before .before .before .before .before .before .before .before .before .check in
     let ys : List ℕ = check .last .1 .1 .1 .1 .1 .1 .1 .0 in
     let told = c .before .before .before .before .before .before .enum-told .given .1 in
-    let fit = accepted-whole s (a .terms) xs (c .before .before .before .before .before .before .before .before .before .before .before .before .before .before .before .before .before .shared-slice-known .given) (sym (check .ensures .0) ∙ told) in
-    let enough = still-enough s (a .terms) xs ys (check .result) (check .ensures .0) told (check .ensures .1) (fit .1) in
+    let fit = accepted-whole s (a .terms) xs (c .before .before .before .before .before .before .before .before .before .before .before .before .before .before .before .before .before .shared-slice-known .given) (sym (check .ensures .answers) ∙ told) in
+    let enough = still-enough s (a .terms) xs ys (check .result) (check .ensures .answers) told (check .ensures .words) (fit .1) in
     omega (arith, enough .words, c .before .before .before .before .search-columns .ensures .1 .size)
-
-answer-of-requires : tie.Need-answer-of-requires
-answer-of-requires c κs = search needs
-
-same-length : tie.Need-same-length
-same-length c = search needs
 
 returns : tie.Need-returns
 returns c =
@@ -73,13 +58,13 @@ returns c =
     let s : Sheet = (sheetOf (a .size) (a .values .now) (a .codes .now) (a .order .now) (a .cuts .now) (a .counts .now)) in
     let xs : List ℕ = a .scratch .now in
     let check = c .before .before .before .before .before .check in
-    let told = c .before .checked .given .1 in (
-      refused s (a .terms) (length xs) _ _ (sym (check .ensures .0) ∙ told),
-      check .ensures .1 ∙ ap (λ (z : Checked). scratchAfter z (a .size .rows) xs) (check .ensures .0),
-    )
-
-same-length-2 : tie.Need-same-length-2
-same-length-2 c = search needs
+    let told = c .before .checked .given .1 in
+    record {
+      answers =
+          refused s (a .terms) (length xs) _ _ (sym (check .ensures .answers) ∙ told);
+      words =
+          check .ensures .words ∙ ap (λ (z : Checked). scratchAfter z (a .size .rows) xs) (check .ensures .answers);
+    }
 
 returns-2 : tie.Need-returns-2
 returns-2 c =
@@ -90,28 +75,22 @@ returns-2 c =
     let check = c .before .before .before .before .before .before .before .before .before .before .before .before .before .before .check in
     let ys : List ℕ = check .last .1 .1 .1 .1 .1 .1 .1 .0 in
     let told = c .before .before .before .before .before .before .before .before .before .before .enum-told .given .1 in
-    let fit = accepted-whole s (a .terms) xs (c .before .before .before .before .before .before .before .before .before .before .before .before .before .before .before .before .before .before .before .before .before .shared-slice-known .given) (sym (check .ensures .0) ∙ told) in
-    let enough = still-enough s (a .terms) xs ys (check .result) (check .ensures .0) told (check .ensures .1) (fit .1) in
+    let fit = accepted-whole s (a .terms) xs (c .before .before .before .before .before .before .before .before .before .before .before .before .before .before .before .before .before .before .before .before .before .shared-slice-known .given) (sym (check .ensures .answers) ∙ told) in
+    let enough = still-enough s (a .terms) xs ys (check .result) (check .ensures .answers) told (check .ensures .words) (fit .1) in
     let searching = c .before .before .before .before .before .before .before .before .search-columns in
-    let zs : List ℕ = searching .last .1 .1 .1 .1 .1 .1 .1 .0 in (
-      c .answer-of .ensures
-          ∙ found-answer s (a .terms) xs (check .result) (check .ensures .0) told (searching .result) (searching .ensures .0),
-      c .before .before .before .clear .ensures
-          ∙ cleared-again s (a .terms) xs ys (check .result) (check .ensures .0) told (check .ensures .1) zs _ _ (searching .ensures .1),
-    )
+    let zs : List ℕ = searching .last .1 .1 .1 .1 .1 .1 .1 .0 in
+    record {
+      answers =
+          c .answer-of .ensures
+          ∙ found-answer s (a .terms) xs (check .result) (check .ensures .answers) told (searching .result) (searching .ensures .0);
+      words =
+          c .before .before .before .clear .ensures
+          ∙ cleared-again s (a .terms) xs ys (check .result) (check .ensures .answers) told (check .ensures .words) zs _ _ (searching .ensures .1);
+    }
 
 pub search-spec : {M : Type 1} → statement M
 search-spec =
     tie.close
     (tie.spec
-    check-requires
-    enum-known-checked
-    enum-told
-    search-columns-requires
-    mul-words
-    clear-requires
-    answer-of-requires
-    same-length
-    returns
-    same-length-2
-    returns-2)
+    (λ c κs. search needs) (λ c. search needs) (λ c. search needs) search-columns-requires mul-words clear-requires (λ c κs. search needs)
+    (λ c. search needs) returns (λ c. search needs) returns-2)

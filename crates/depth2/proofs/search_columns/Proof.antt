@@ -5,10 +5,10 @@ use native.Mathlib.Omega.{arith}
 use borrow.Author.Needs.{needs}
 use Rattle.sheet.specs.Sheet.{Sheet}
 use Rattle.sheet.specs.Check.{sheetOf}
-use Rattle.cut_try.specs.Lent.{tableOf, ringOf, Became}
-use Rattle.depth2.specs.Columns.{Between}
-use Rattle.interval_steps.specs.declared.Standing.{Standing}
-use Rattle.cut_try.proofs.Lent.{became-enough, became-then}
+use Rattle.column_turns.specs.Lent.{tableOf, ringOf, Became}
+use Rattle.depth2.specs.Columns.{BetweenColumns}
+use Rattle.column_turns.specs.declared.interval_steps.Standing.{Standing}
+use Rattle.column_turns.proofs.Lent.{became-enough, became-then}
 use Rattle.depth2.proofs.Columns.{between-start, between-next, between-stop, between-end}
 use Rattle.depth2.proofs.search_columns.Statement.{statement}
 use Rattle.depth2.proofs.search_columns.Tie as tie
@@ -16,21 +16,18 @@ use Rattle.depth2.proofs.search_columns.Tie as tie
 abbrev Inv-loop : tie.InvT-loop
 Inv-loop size terms values codes order cuts counts scratch₀ standing₀ column₀ scratch standing column =
     (column ≤ size .columns)
-    × Between (sheetOf size values codes order cuts counts) terms column standing
+    × BetweenColumns (sheetOf size values codes order cuts counts) terms column standing
     × Became (size .rows) scratch₀ scratch (tableOf (size .rows) scratch) (ringOf (size .rows) scratch)
 
 abbrev μ-loop : tie.MeasureT-loop
 μ-loop size terms values codes order cuts counts scratch₀ standing₀ column₀ scratch standing column =
     size .columns - column
 
-nothing-tried-requires : tie.Need-nothing-tried-requires Inv-loop μ-loop
-nothing-tried-requires c κs = search needs
-
 loop-holds : tie.Need-loop-holds Inv-loop μ-loop
 loop-holds c =
     let a = c .before .before .before .before .before .before .before .args in
     let s : Sheet = (sheetOf (a .size) (a .values .now) (a .codes .now) (a .order .now) (a .cuts .now) (a .counts .now)) in
-    (omega arith, subst (Between s (a .terms) 0) (sym (c .nothing-tried .ensures)) (between-start s (a .terms)), record { size = refl; rest = refl; table-is = refl; ring-is = refl })
+    (omega arith, subst (BetweenColumns s (a .terms) 0) (sym (c .nothing-tried .ensures)) (between-start s (a .terms)), record { size = refl; rest = refl; table-is = refl; ring-is = refl })
 
 search-column-requires : tie.Need-search-column-requires Inv-loop μ-loop
 search-column-requires c κs =
@@ -80,7 +77,7 @@ loop-again c =
     let e = ap (λ (z : Standing). z .error) (call .ensures .0) in
     let after = became-then (a .size .rows) (a .scratch .now) (loop .scratch) _ _ _ _ _ (loop .inv .2) (call .ensures .1) in (
       omega arith,
-      subst (Between s (a .terms) (loop .column + 1)) (sym (call .ensures .0))
+      subst (BetweenColumns s (a .terms) (loop .column + 1)) (sym (call .ensures .0))
           (between-next s (a .terms) (loop .column) (loop .standing) (start .pre .0) here (loop .inv .1) (omega (arith, e, c .if2 .left))),
       after,
     )
@@ -98,15 +95,5 @@ pub search-columns-spec : {M : Type 1} → statement M
 search-columns-spec =
     tie.close
     (tie.spec
-    Inv-loop
-    μ-loop
-    nothing-tried-requires
-    loop-holds
-    search-column-requires
-    same-length
-    returns
-    add-column
-    loop-less
-    loop-again
-    same-length-2
+    Inv-loop μ-loop (λ c κs. search needs) loop-holds search-column-requires same-length returns add-column loop-less loop-again same-length-2
     returns-2)

@@ -22,9 +22,6 @@ add-count c =
     let few : l .count < 20 = fewer (c .before .before .args .n) (l .count) (l .rest) (l .inv) (omega arith) (omega arith) in
     omega arith
 
-loop-less : tie.Need-loop-less Inv-loop μ-loop
-loop-less c = search needs
-
 loop-again : tie.Need-loop-again Inv-loop μ-loop
 loop-again c =
     let l = c .before .loop in
@@ -37,4 +34,4 @@ returns c =
 
 pub places-spec : {M : Type 1} → statement M
 places-spec =
-    tie.close (tie.spec Inv-loop μ-loop loop-holds add-count loop-less loop-again returns)
+    tie.close (tie.spec Inv-loop μ-loop loop-holds add-count (λ c. search needs) loop-again returns)

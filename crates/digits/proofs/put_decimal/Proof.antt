@@ -11,15 +11,9 @@ use Rattle.digits.proofs.Decimal.{places-most}
 use Rattle.digits.proofs.put_decimal.Statement.{statement}
 use Rattle.digits.proofs.put_decimal.Tie as tie
 
-places-requires : tie.Need-places-requires
-places-requires c κs = search needs
-
 put-digits-requires : tie.Need-put-digits-requires
 put-digits-requires c κs =
     (lit≤ tt, lit≤ tt, omega (arith, c .places .ensures, places-most (c .before .before .before .args .n)))
-
-same-length : tie.Need-same-length
-same-length c = search needs
 
 returns : tie.Need-returns
 unfolding decimalOf
@@ -31,4 +25,4 @@ returns c =
     )
 
 pub put-decimal-spec : {M : Type 1} → statement M
-put-decimal-spec = tie.close (tie.spec places-requires put-digits-requires same-length returns)
+put-decimal-spec = tie.close (tie.spec (λ c κs. search needs) put-digits-requires (λ c. search needs) returns)

@@ -10,9 +10,6 @@ use Rattle.digits.proofs.put_hex.Tie as tie
 put-digits-requires : tie.Need-put-digits-requires
 put-digits-requires c κs = (lit≤ tt, lit≤ tt, omega arith)
 
-same-length : tie.Need-same-length
-same-length c = search needs
-
 returns : tie.Need-returns
 unfolding hexOf
 returns c =
@@ -21,4 +18,4 @@ returns c =
     (digits .ensures, omega (arith, length-digits 16 16 (a .bits)))
 
 pub put-hex-spec : {M : Type 1} → statement M
-put-hex-spec = tie.close (tie.spec put-digits-requires same-length returns)
+put-hex-spec = tie.close (tie.spec put-digits-requires (λ c. search needs) returns)

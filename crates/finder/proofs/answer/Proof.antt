@@ -6,9 +6,6 @@ use Rattle.rule_finder.proofs.Laws.{written-within, text-written}
 use Rattle.finder.proofs.answer.Statement.{statement}
 use Rattle.finder.proofs.answer.Tie as tie
 
-run-requires : tie.Need-run-requires
-run-requires c κs = search needs
-
 returns : tie.Need-returns
 returns c =
     let r = c .run in (
@@ -17,4 +14,4 @@ returns c =
     )
 
 pub answer-spec : {M : Type 1} → statement M
-answer-spec = tie.close (tie.spec run-requires returns)
+answer-spec = tie.close (tie.spec (λ c κs. search needs) returns)

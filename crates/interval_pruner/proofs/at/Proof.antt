@@ -6,22 +6,10 @@ use lib.ListN.{List·getD-eq-default}
 use Rattle.interval_pruner.proofs.at.Statement.{statement}
 use Rattle.interval_pruner.proofs.at.Tie as tie
 
-mul-wide-word : tie.Need-mul-wide-word
-mul-wide-word c = search needs
-
-shared-slice-read-wide-word : tie.Need-shared-slice-read-wide-word
-shared-slice-read-wide-word c = search needs
-
-wide-word-requires : tie.Need-wide-word-requires
-wide-word-requires c κs = search needs
-
-returns : tie.Need-returns
-returns c = search needs
-
 returns-2 : tie.Need-returns-2
 returns-2 c =
     let a = c .before .before .args in
     (sym (List·getD-eq-default (a .table .now) 0 (c .if1 .left)), omega arith)
 
 pub at-spec : {M : Type 1} → statement M
-at-spec = tie.close (tie.spec mul-wide-word shared-slice-read-wide-word wide-word-requires returns returns-2)
+at-spec = tie.close (tie.spec (λ c. search needs) (λ c. search needs) (λ c κs. search needs) (λ c. search needs) returns-2)

@@ -8,15 +8,6 @@ use Rattle.interval_pruner.specs.Column.{recorded}
 use Rattle.interval_pruner.proofs.right_at.Statement.{statement}
 use Rattle.interval_pruner.proofs.right_at.Tie as tie
 
-mul-at : tie.Need-mul-at
-mul-at c = search needs
-
-add-at : tie.Need-add-at
-add-at c = search needs
-
-at-requires : tie.Need-at-requires
-at-requires c κs = search needs
-
 returns : tie.Need-returns
 unfolding recorded
 returns c = c .at .ensures
@@ -28,4 +19,4 @@ returns-2 c =
     (sym (List·getD-eq-default (a .table .now) 0 {n = 2 * a .cut + 1} (omega arith)), omega arith)
 
 pub right-at-spec : {M : Type 1} → statement M
-right-at-spec = tie.close (tie.spec mul-at add-at at-requires returns returns-2)
+right-at-spec = tie.close (tie.spec (λ c. search needs) (λ c. search needs) (λ c κs. search needs) returns returns-2)

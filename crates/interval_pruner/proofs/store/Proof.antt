@@ -5,22 +5,10 @@ use lib.Seq.{set-out}
 use Rattle.interval_pruner.proofs.store.Statement.{statement}
 use Rattle.interval_pruner.proofs.store.Tie as tie
 
-mul-table : tie.Need-mul-table
-mul-table c = search needs
-
-slice-write-table : tie.Need-slice-write-table
-slice-write-table c = search needs
-
-same-length : tie.Need-same-length
-same-length c = search needs
-
-returns : tie.Need-returns
-returns c = search needs
-
 returns-2 : tie.Need-returns-2
 returns-2 c =
     let a = c .before .args in
     sym (set-out (a .table .now) (a .i) (a .error) (c .if1 .left))
 
 pub store-spec : {M : Type 1} → statement M
-store-spec = tie.close (tie.spec mul-table slice-write-table same-length returns returns-2)
+store-spec = tie.close (tie.spec (λ c. search needs) (λ c. search needs) (λ c. search needs) (λ c. search needs) returns-2)

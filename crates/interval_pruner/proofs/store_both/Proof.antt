@@ -10,21 +10,6 @@ use Rattle.interval_pruner.specs.Pruner.{recordedAfter}
 use Rattle.interval_pruner.proofs.store_both.Statement.{statement}
 use Rattle.interval_pruner.proofs.store_both.Tie as tie
 
-mul-at : tie.Need-mul-at
-mul-at c = search needs
-
-store-requires : tie.Need-store-requires
-store-requires c κs = search needs
-
-add-store : tie.Need-add-store
-add-store c = search needs
-
-store-requires-2 : tie.Need-store-requires-2
-store-requires-2 c κs = search needs
-
-same-length : tie.Need-same-length
-same-length c = search needs
-
 -- past the table
 unkept : (table : List ℕ) (cut left right : ℕ) → length table ≤ cut → recordedAfter table cut left right ≡ table
 unfolding recordedAfter
@@ -48,4 +33,4 @@ returns-2 c =
 pub store-both-spec : {M : Type 1} → statement M
 store-both-spec =
     tie.close
-    (tie.spec mul-at store-requires add-store store-requires-2 same-length returns returns-2)
+    (tie.spec (λ c. search needs) (λ c κs. search needs) (λ c. search needs) (λ c κs. search needs) (λ c. search needs) returns returns-2)

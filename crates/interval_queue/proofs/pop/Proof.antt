@@ -8,33 +8,15 @@ use borrow.Author.Needs.{needs}
 use Rattle.interval_queue.proofs.pop.Statement.{statement}
 use Rattle.interval_queue.proofs.pop.Tie as tie
 
-none-requires : tie.Need-none-requires
-none-requires c κs = search needs
-
 returns : tie.Need-returns
 returns c =
     let a = c .before .before .before .args in
     c .none .ensures ∙ sym (pop-out (a .words .now) (a .queue) (c .before .if1 .taken))
 
-none-requires-2 : tie.Need-none-requires-2
-none-requires-2 c κs = search needs
-
 returns-2 : tie.Need-returns-2
 returns-2 c =
     let a = c .before .before .before .before .args in
     c .none2 .ensures ∙ sym (pop-none (a .words .now) (a .queue) (omega arith))
-
-mul-load : tie.Need-mul-load
-mul-load c = search needs
-
-load-requires : tie.Need-load-requires
-load-requires c κs = search needs
-
-slot-requires : tie.Need-slot-requires
-slot-requires c κs = search needs
-
-sub-t8 : tie.Need-sub-t8
-sub-t8 c = search needs
 
 returns-3 : tie.Need-returns-3
 returns-3 c =
@@ -46,12 +28,5 @@ pub pop-spec : {M : Type 1} → statement M
 pop-spec =
     tie.close
     (tie.spec
-    none-requires
-    returns
-    none-requires-2
-    returns-2
-    mul-load
-    load-requires
-    slot-requires
-    sub-t8
-    returns-3)
+    (λ c κs. search needs) returns (λ c κs. search needs) returns-2 (λ c. search needs) (λ c κs. search needs) (λ c κs. search needs)
+    (λ c. search needs) returns-3)

@@ -18,21 +18,6 @@ returns-2 c =
     let a = c .before .before .before .args in
     (sym (push-full (a .words .now) (a .queue) (c .if2 .taken)), sym (push-full-words (a .words .now) (a .queue) (a .bound) (c .if2 .taken)))
 
-slot-requires : tie.Need-slot-requires
-slot-requires c κs = search needs
-
-mul-at : tie.Need-mul-at
-mul-at c = search needs
-
-store-requires : tie.Need-store-requires
-store-requires c κs = search needs
-
-add-t8 : tie.Need-add-t8
-add-t8 c = search needs
-
-same-length : tie.Need-same-length
-same-length c = search needs
-
 returns-3 : tie.Need-returns-3
 returns-3 c =
     let a = c .before .before .before .before .before .before .before .before .args in (
@@ -45,4 +30,4 @@ returns-3 c =
 pub push-spec : {M : Type 1} → statement M
 push-spec =
     tie.close
-    (tie.spec returns returns-2 slot-requires mul-at store-requires add-t8 same-length returns-3)
+    (tie.spec returns returns-2 (λ c κs. search needs) (λ c. search needs) (λ c κs. search needs) (λ c. search needs) (λ c. search needs) returns-3)

@@ -9,9 +9,6 @@ use borrow.Author.Needs.{needs}
 use Rattle.interval_queue.proofs.slot.Statement.{statement}
 use Rattle.interval_queue.proofs.slot.Tie as tie
 
-add-at : tie.Need-add-at
-add-at c = search needs
-
 returns : tie.Need-returns
 unfolding slotOf
 returns c =
@@ -25,4 +22,4 @@ returns-2 c =
     (sym (pick-false (ltb (a .head + a .k) (a .slots)) _ _ (not-T (ltb (a .head + a .k) (a .slots)) (λ t. omega (arith, ltb→lt (a .head + a .k) (a .slots) t)))), search needs)
 
 pub slot-spec : {M : Type 1} → statement M
-slot-spec = tie.close (tie.spec add-at returns returns-2)
+slot-spec = tie.close (tie.spec (λ c. search needs) returns returns-2)

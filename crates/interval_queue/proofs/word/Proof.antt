@@ -5,9 +5,6 @@ use borrow.Author.Needs.{needs}
 use Rattle.interval_queue.proofs.word.Statement.{statement}
 use Rattle.interval_queue.proofs.word.Tie as tie
 
-cast-result : tie.Need-cast-result
-cast-result c = search needs
-
 returns : tie.Need-returns
 unfolding wordOf
 returns c = omega arith
@@ -17,4 +14,4 @@ unfolding wordOf
 returns-2 c = omega arith
 
 pub word-spec : {M : Type 1} → statement M
-word-spec = tie.close (tie.spec cast-result returns returns-2)
+word-spec = tie.close (tie.spec (λ c. search needs) (λ c. search needs) returns returns-2)

@@ -6,15 +6,6 @@ use Rattle.judge.specs.Judge.{badThreshold}
 use Rattle.judge.proofs.bad_threshold.Statement.{statement}
 use Rattle.judge.proofs.bad_threshold.Tie as tie
 
-enum-told : tie.Need-enum-told
-enum-told c = search needs
-
-enum-known-side : tie.Need-enum-known-side
-enum-known-side c = search needs
-
-is-finite-requires : tie.Need-is-finite-requires
-is-finite-requires c κs = search needs
-
 returns : tie.Need-returns
 unfolding badThreshold
 returns c = sym (ap badThreshold (c .enum-told .given .1))
@@ -25,4 +16,4 @@ returns-2 c = ap not (c .is-finite .ensures) ∙ sym (ap badThreshold (c .before
 
 pub bad-threshold-spec : {M : Type 1} → statement M
 bad-threshold-spec =
-    tie.close (tie.spec enum-told enum-known-side is-finite-requires returns returns-2)
+    tie.close (tie.spec (λ c. search needs) (λ c. search needs) (λ c κs. search needs) returns returns-2)

@@ -43,12 +43,8 @@ tree z = z .args .tree
 
 -- ---- what each of them found
 
-size-found : (z : tie.After-size-holds) → z .size-holds .result ≡ sizeHolds (sheet (start z))
-unfolding sizeHolds
-size-found z = z .size-holds .ensures
-
 in-limits : (c : tie.Else1) → Limited (sheet (start (c .before)))
-in-limits c = limited (sheet (start (c .before))) (truth (sym (size-found (c .before)) ∙ not-false _ (c .if1 .left)))
+in-limits c = limited (sheet (start (c .before))) (truth (sym (c .before .size-holds .ensures) ∙ not-false _ (c .if1 .left)))
 
 in-length : (c : tie.Else2) → T (judgedHolds (sheet (start (size (c .before)))))
 in-length c = truth (sym (c .before .lengths-hold .ensures) ∙ not-false _ (c .if2 .left))
@@ -75,7 +71,7 @@ go1 : (c : tie.Else1) {r : Verdict} → r ≡ after1 (sheet (start (c .before)))
     → r ≡ judgeOf (sheet (start (c .before))) (tree (start (c .before)))
 go1 c f =
     let z = start (c .before) in
-    back-go sizeOutside 0 (not (sizeHolds (sheet z))) (after1 (sheet z) (tree z)) (ap not (sym (size-found (c .before))) ∙ c .if1 .left) f
+    back-go sizeOutside 0 (not (sizeHolds (sheet z .rows) (sheet z .columns) (sheet z .labels))) (after1 (sheet z) (tree z)) (ap not (sym (c .before .size-holds .ensures)) ∙ c .if1 .left) f
     ∙ sym (judged (sheet z) (tree z))
 
 go2 : (c : tie.Else2) {r : Verdict} → r ≡ after2 (sheet (start (size (c .before)))) (tree (start (size (c .before))))
@@ -97,25 +93,16 @@ go5 c f =
 
 -- ---- the needs
 
-size-holds-requires : tie.Need-size-holds-requires
-size-holds-requires c κs = search needs
-
-turned-back-requires : tie.Need-turned-back-requires
-turned-back-requires c κs = search needs
-
 returns : tie.Need-returns
 returns c =
     let d = c .before in
     let z = start (d .before) in
     c .turned-back .ensures
-    ∙ back-stop sizeOutside 0 (not (sizeHolds (sheet z))) (after1 (sheet z) (tree z)) (ap not (sym (size-found (d .before))) ∙ d .if1 .taken)
+    ∙ back-stop sizeOutside 0 (not (sizeHolds (sheet z .rows) (sheet z .columns) (sheet z .labels))) (after1 (sheet z) (tree z)) (ap not (sym (d .before .size-holds .ensures)) ∙ d .if1 .taken)
     ∙ sym (judged (sheet z) (tree z))
 
 lengths-hold-requires : tie.Need-lengths-hold-requires
 lengths-hold-requires c κs = let h = in-limits c in (h .rows-most, h .columns-most)
-
-turned-back-requires-2 : tie.Need-turned-back-requires-2
-turned-back-requires-2 c κs = search needs
 
 returns-2 : tie.Need-returns-2
 returns-2 c =
@@ -126,12 +113,6 @@ returns-2 c =
     (back-stop lengthWrong 0 (not (judgedHolds (sheet z))) (after2 (sheet z) (tree z))
     (ap not (sym (d .before .lengths-hold .ensures)) ∙ d .if2 .taken))
 
-first-bad-value-requires : tie.Need-first-bad-value-requires
-first-bad-value-requires c κs = search needs
-
-turned-back-requires-3 : tie.Need-turned-back-requires-3
-turned-back-requires-3 c κs = search needs
-
 returns-3 : tie.Need-returns-3
 returns-3 c =
     let d = c .before in
@@ -141,12 +122,6 @@ returns-3 c =
     ∙ go2 (v .before)
     (first-stop valueOutside (cellsOf (sheet z)) (badValue (z .args .values .now)) (after5 (sheet z) (tree z)) (v .first-bad-value .result)
     (value-at v) (omega (arith, d .if3 .taken, values-length (sheet z) (in-length (v .before)))))
-
-first-bad-label-requires : tie.Need-first-bad-label-requires
-first-bad-label-requires c κs = search needs
-
-turned-back-requires-4 : tie.Need-turned-back-requires-4
-turned-back-requires-4 c κs = search needs
 
 returns-4 : tie.Need-returns-4
 returns-4 c =
@@ -181,17 +156,5 @@ pub judge-spec : {M : Type 1} → statement M
 judge-spec =
     tie.close
     (tie.spec
-    size-holds-requires
-    turned-back-requires
-    returns
-    lengths-hold-requires
-    turned-back-requires-2
-    returns-2
-    first-bad-value-requires
-    turned-back-requires-3
-    returns-3
-    first-bad-label-requires
-    turned-back-requires-4
-    returns-4
-    judge-tree-requires
-    returns-5)
+    (λ c κs. search needs) (λ c κs. search needs) returns lengths-hold-requires (λ c κs. search needs) returns-2 (λ c κs. search needs)
+    (λ c κs. search needs) returns-3 (λ c κs. search needs) (λ c κs. search needs) returns-4 judge-tree-requires returns-5)

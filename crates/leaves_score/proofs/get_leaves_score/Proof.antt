@@ -2,34 +2,31 @@
 use mathlib.Core.Path.{ap₂, _∙_}
 use Rattle.sheet.specs.Sheet.{Sheet}
 use Rattle.tree.specs.declared.Side.{Side}
-use Rattle.two_sides.specs.Column.{other}
+use Rattle.leaves_score.specs.Column.{other}
 use Rattle.leaves_score.specs.Scan.{scanned, sidesOf}
-use Rattle.side_scan.specs.Step.{Sized}
-use Rattle.two_sides.specs.Lists.{sheetOf, goLeft}
+use Rattle.side_scan.specs.Step.{SideSized}
+use Rattle.leaves_score.specs.SideLists.{scanSheet, goLeft}
 use Rattle.leaves_score.proofs.Columns.{Both, both-scanned, both-alike, side-alike, sized}
 use borrow.Author.Needs.{needs}
 use Rattle.leaves_score.proofs.get_leaves_score.Statement.{statement}
 use Rattle.leaves_score.proofs.get_leaves_score.Tie as tie
-
-scan-columns-requires : tie.Need-scan-columns-requires
-scan-columns-requires c κs = search needs
 
 module _ (c : tie.After-scan-columns) where
   abbrev start : tie.Start
   start = c .before .before .before .before .before
 
   abbrev sheet : Sheet
-  sheet = sheetOf (start .args .size) (start .args .values .now) (start .args .codes .now) (start .args .order .now)
+  sheet = scanSheet (start .args .size) (start .args .values .now) (start .args .codes .now) (start .args .order .now)
 
   both : Both sheet (start .args .support) (goLeft (start .args .marks .now)) (c .scan-columns .result)
   both =
       both-alike sheet (start .args .support) (goLeft (start .args .marks .now)) (c .scan-columns .result) (scanned sheet (start .args .support) (goLeft (start .args .marks .now)))
       (c .scan-columns .ensures) (both-scanned sheet (start .args .support) (goLeft (start .args .marks .now)))
 
-  left-sized : Sized (c .scan-columns .result .left)
+  left-sized : SideSized (c .scan-columns .result .left)
   left-sized = sized sheet (start .args .support) (goLeft (start .args .marks .now)) (c .scan-columns .result .left) (both .left) (start .pre .limited .labels-some) (start .pre .limited .labels-most)
 
-  right-sized : Sized (c .scan-columns .result .right)
+  right-sized : SideSized (c .scan-columns .result .right)
   right-sized =
       sized sheet (start .args .support) (other (goLeft (start .args .marks .now))) (c .scan-columns .result .right) (both .right) (start .pre .limited .labels-some) (start .pre .limited .labels-most)
 
@@ -48,4 +45,4 @@ returns c =
 
 pub get-leaves-score-spec : {M : Type 1} → statement M
 get-leaves-score-spec =
-    tie.close (tie.spec scan-columns-requires side-of-requires side-of-requires-2 returns)
+    tie.close (tie.spec (λ c κs. search needs) side-of-requires side-of-requires-2 returns)

@@ -10,12 +10,12 @@ use lib.Ieee.{Float}
 use Rattle.sheet.specs.Sheet.{Sheet, labelOf, leastRows}
 use Rattle.side_scan.specs.declared.SideScan.{SideScan}
 use Rattle.sheet.specs.declared.Size.{Size}
-use Rattle.two_sides.specs.declared.Parted.{Parted}
-use Rattle.two_sides.specs.Column.{other, sizeOf, labelled, ownOf, startOf}
+use Rattle.leaves_score.specs.declared.two_sides.Parted.{Parted}
+use Rattle.leaves_score.specs.Column.{other, sizeOf, labelled, ownOf, sideAtStart}
 use Rattle.leaves_score.specs.Scan.{startBoth, scanned}
-use Rattle.two_sides.specs.Kept.{BothAlike}
+use Rattle.leaves_score.specs.Kept.{BothAlike}
 use Rattle.side_scan.specs.Step.{leafScan}
-use Rattle.two_sides.specs.Lists.{sheetOf, goLeft, Numbered, rowsOnly, partedOf, ReadyColumn, ReadyRows}
+use Rattle.leaves_score.specs.SideLists.{scanSheet, goLeft, SidesNumbered, rowsOnly, partedOf, ReadyColumn, ReadyRows}
 use Rattle.leaves_score.specs.Lists.{Scannable}
 use Rattle.leaves_score.proofs.Marks.{starts-alike, scanned-alike}
 use Rattle.leaves_score.proofs.Columns.{Scanning, begins, finished, stops, goes-on, ready-column, same-side}
@@ -26,26 +26,26 @@ use Rattle.leaves_score.proofs.scan_columns.Tie as tie
 
 one : (size : Size) (values : List Float) (codes order : List ℕ) (support : ℕ) (mine : ℕ → Bool)
     → leafScan (ownOf (rowsOnly (size .rows) codes) mine) (sizeOf (rowsOnly (size .rows) codes) mine) (size .labels) (leastRows support)
-    ≡ startOf (sheetOf size values codes order) support mine
-unfolding leafScan startOf ownOf labelled labelOf sizeOf
+    ≡ sideAtStart (scanSheet size values codes order) support mine
+unfolding sideAtStart ownOf labelled labelOf sizeOf
 one size values codes order support mine = refl
 
 begun : (size : Size) (values : List Float) (codes order marks : List ℕ) (support : ℕ) (p : Parted) (least : ℕ) (l r : SideScan)
     → p ≡ partedOf (size .rows) codes marks → least ≡ leastRows support → l ≡ leafScan (p .own) (p .size) (size .labels) least
     → r ≡ leafScan (p .other) (p .rest) (size .labels) least
-    → record { left = l; right = r } ≡ startBoth (sheetOf size values codes order) support (goLeft marks)
+    → record { left = l; right = r } ≡ startBoth (scanSheet size values codes order) support (goLeft marks)
 unfolding startBoth partedOf
 begun size values codes order marks support p least l r ep en el er =
-    let s = sheetOf size values codes order in
+    let s = scanSheet size values codes order in
     let labels = size .labels in
-    let left : l ≡ startOf s support (goLeft marks) =
+    let left : l ≡ sideAtStart s support (goLeft marks) =
     el ∙ ap (λ (p : Parted). leafScan (p .own) (p .size) labels least) ep
     ∙ ap (λ (n : ℕ). leafScan (partedOf (size .rows) codes marks .own) (partedOf (size .rows) codes marks .size) labels n) en ∙ one size values codes order support (goLeft marks) in
-    let right : r ≡ startOf s support (other (goLeft marks)) =
+    let right : r ≡ sideAtStart s support (other (goLeft marks)) =
     er ∙ ap (λ (p : Parted). leafScan (p .other) (p .rest) labels least) ep
     ∙ ap (λ (n : ℕ). leafScan (partedOf (size .rows) codes marks .other) (partedOf (size .rows) codes marks .rest) labels n) en
     ∙ one size values codes order support (other (goLeft marks)) in
-    ap (λ (t : SideScan). record { left = t; right = r }) left ∙ ap (λ (t : SideScan). record { left = startOf s support (goLeft marks); right = t }) right
+    ap (λ (t : SideScan). record { left = t; right = r }) left ∙ ap (λ (t : SideScan). record { left = sideAtStart s support (goLeft marks); right = t }) right
 
 rows-ready : (s : Sheet) (marks : List ℕ) → Scannable s marks → ReadyRows (s .rows) (s .codes) marks
 rows-ready s marks h =
@@ -61,7 +61,7 @@ rows-ready s marks h =
 
 abbrev Inv-loop : tie.InvT-loop
 Inv-loop size support values codes order marks numbers least both₀ column₀ both column =
-    Scanning (sheetOf size values codes order) support (goLeft numbers) column both
+    Scanning (scanSheet size values codes order) support (goLeft numbers) column both
 
 abbrev μ-loop : tie.MeasureT-loop
 μ-loop size support values codes order marks numbers least both₀ column₀ both column = size .columns - column
@@ -71,22 +71,13 @@ part-rows-requires c κs =
     let p = c .before .before .before .before .before in
     (rows-ready _ _ (p .pre), p .pre .limited .rows-most)
 
-least-rows-requires : tie.Need-least-rows-requires Inv-loop μ-loop
-least-rows-requires c κs = search needs
-
-begin-requires : tie.Need-begin-requires Inv-loop μ-loop
-begin-requires c κs = search needs
-
-begin-requires-2 : tie.Need-begin-requires-2 Inv-loop μ-loop
-begin-requires-2 c κs = search needs
-
 -- the rows' sides as numbers, after they are parted
 module _ (c : tie.After-part-rows Inv-loop μ-loop) where
   abbrev start : tie.Start Inv-loop μ-loop
   start = c .before .before .before .before .before .before
 
   abbrev sheet : Sheet
-  sheet = sheetOf (start .args .size) (start .args .values .now) (start .args .codes .now) (start .args .order .now)
+  sheet = scanSheet (start .args .size) (start .args .values .now) (start .args .codes .now) (start .args .order .now)
 
   abbrev marks : List ℕ
   marks = start .args .marks .now
@@ -94,7 +85,7 @@ module _ (c : tie.After-part-rows Inv-loop μ-loop) where
   abbrev sides : List ℕ
   sides = c .part-rows .last .1 .1 .1 .0
 
-  numbered : Numbered (start .args .size .rows) marks sides
+  numbered : SidesNumbered (start .args .size .rows) marks sides
   numbered = c .part-rows .ensures .1
 
   alike : (r : ℕ) → r < start .args .size .rows → goLeft sides r ≡ goLeft marks r
@@ -129,15 +120,6 @@ module _ (c : tie.Then1 Inv-loop μ-loop) where
 scan-column-requires : tie.Need-scan-column-requires Inv-loop μ-loop
 scan-column-requires c κs = ready (c .before)
 
-add-column : tie.Need-add-column Inv-loop μ-loop
-add-column c = search needs
-
-is-perfect-requires : tie.Need-is-perfect-requires Inv-loop μ-loop
-is-perfect-requires c κs = search needs
-
-loop-less : tie.Need-loop-less Inv-loop μ-loop
-loop-less c = search needs
-
 loop-again : tie.Need-loop-again Inv-loop μ-loop
 loop-again c =
     let d = c .before .before in
@@ -166,17 +148,5 @@ pub scan-columns-spec : {M : Type 1} → statement M
 scan-columns-spec =
     tie.close
     (tie.spec
-    Inv-loop
-    μ-loop
-    part-rows-requires
-    least-rows-requires
-    begin-requires
-    begin-requires-2
-    loop-holds
-    scan-column-requires
-    add-column
-    is-perfect-requires
-    loop-less
-    loop-again
-    returns
-    returns-2)
+    Inv-loop μ-loop part-rows-requires (λ c κs. search needs) (λ c κs. search needs) (λ c κs. search needs) loop-holds scan-column-requires
+    (λ c. search needs) (λ c κs. search needs) (λ c. search needs) loop-again returns returns-2)

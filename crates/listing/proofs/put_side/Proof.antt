@@ -5,28 +5,13 @@ use borrow.Author.Needs.{needs}
 use lib.ListN.{length-set}
 use Rattle.tree.specs.declared.Side.{Side}
 use Rattle.digits.specs.Put.{Put}
-use Rattle.listing.specs.Listing.{sideOf}
+use Rattle.listing.specs.Listing.{sideLine}
 use Rattle.digits.proofs.Puts.{joined, one}
 use Rattle.listing.proofs.put_side.Statement.{statement}
 use Rattle.listing.proofs.put_side.Tie as tie
 
-slice-write-out : tie.Need-slice-write-out
-slice-write-out c = search needs
-
-enum-known-side : tie.Need-enum-known-side
-enum-known-side c = search needs
-
-add-put-leaf : tie.Need-add-put-leaf
-add-put-leaf c = search needs
-
 put-leaf-requires : tie.Need-put-leaf-requires
 put-leaf-requires c κs = simp length-set (omega arith)
-
-enum-known-side-2 : tie.Need-enum-known-side-2
-enum-known-side-2 c = search needs
-
-add-put-split : tie.Need-add-put-split
-add-put-split c = search needs
 
 put-split-requires : tie.Need-put-split-requires
 put-split-requires c κs = simp length-set (omega arith)
@@ -35,11 +20,11 @@ same-length : tie.Need-same-length
 same-length c = c .before .before .put-leaf .kept .0 ∙ length-set (c .before .before .before .before .before .before .before .before .args .out .now) (c .before .before .before .before .before .before .before .before .args .at) (c .before .before .before .before .before .before .before .before .args .mark)
 
 returns : tie.Need-returns
-unfolding sideOf
+unfolding sideLine
 returns c =
     let a = c .before .before .before .before .before .before .before .before .args in
     let rest = c .before .before .put-leaf in (
-      subst (λ (s : Side). Put (a .out .now) (a .at) (sideOf (a .mark) s) (rest .result) (rest .last .0)) (sym (c .before .before .before .before .before .side .given .1))
+      subst (λ (s : Side). Put (a .out .now) (a .at) (sideLine (a .mark) s) (rest .result) (rest .last .0)) (sym (c .before .before .before .before .before .side .given .1))
           (joined (one (a .out .now) (a .at) (a .mark)) (rest .ensures .0)),
       omega arith,
     )
@@ -48,11 +33,11 @@ same-length-2 : tie.Need-same-length-2
 same-length-2 c = c .before .before .put-split .kept .0 ∙ length-set (c .before .before .before .before .before .before .before .before .args .out .now) (c .before .before .before .before .before .before .before .before .args .at) (c .before .before .before .before .before .before .before .before .args .mark)
 
 returns-2 : tie.Need-returns-2
-unfolding sideOf
+unfolding sideLine
 returns-2 c =
     let a = c .before .before .before .before .before .before .before .before .args in
     let rest = c .before .before .put-split in (
-      subst (λ (s : Side). Put (a .out .now) (a .at) (sideOf (a .mark) s) (rest .result) (rest .last .0)) (sym (c .before .before .before .before .before .side2 .given .1))
+      subst (λ (s : Side). Put (a .out .now) (a .at) (sideLine (a .mark) s) (rest .result) (rest .last .0)) (sym (c .before .before .before .before .before .side2 .given .1))
           (joined (one (a .out .now) (a .at) (a .mark)) (rest .ensures .0)),
       omega arith,
     )
@@ -61,14 +46,5 @@ pub put-side-spec : {M : Type 1} → statement M
 put-side-spec =
     tie.close
     (tie.spec
-    slice-write-out
-    enum-known-side
-    add-put-leaf
-    put-leaf-requires
-    enum-known-side-2
-    add-put-split
-    put-split-requires
-    same-length
-    returns
-    same-length-2
-    returns-2)
+    (λ c. search needs) (λ c. search needs) (λ c. search needs) put-leaf-requires (λ c. search needs) (λ c. search needs) put-split-requires
+    same-length returns same-length-2 returns-2)

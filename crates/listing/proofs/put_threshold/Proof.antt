@@ -10,21 +10,6 @@ use Rattle.digits.proofs.Puts.{joined}
 use Rattle.listing.proofs.put_threshold.Statement.{statement}
 use Rattle.listing.proofs.put_threshold.Tie as tie
 
-slice-aggregate-put-bytes : tie.Need-slice-aggregate-put-bytes
-slice-aggregate-put-bytes c = search needs
-
-put-bytes-requires : tie.Need-put-bytes-requires
-put-bytes-requires c κs = search needs
-
-bits-of-requires : tie.Need-bits-of-requires
-bits-of-requires c κs = search needs
-
-put-hex-requires : tie.Need-put-hex-requires
-put-hex-requires c κs = search needs
-
-same-length : tie.Need-same-length
-same-length c = search needs
-
 returns : tie.Need-returns
 unfolding spotOf
 returns c =
@@ -38,9 +23,4 @@ pub put-threshold-spec : {M : Type 1} → statement M
 put-threshold-spec =
     tie.close
     (tie.spec
-    slice-aggregate-put-bytes
-    put-bytes-requires
-    bits-of-requires
-    put-hex-requires
-    same-length
-    returns)
+    (λ c. search needs) (λ c κs. search needs) (λ c κs. search needs) (λ c κs. search needs) (λ c. search needs) returns)

@@ -14,27 +14,12 @@ use Rattle.rule_finder.proofs.answer_to.Tie as tie
 is-refused : (c : tie.After-read) → readOf (c .before .before .before .before .before .before .before .before .args .bytes .now) ≡ Refused (c .read .given .0 .0) (c .read .given .0 .1 .0)
 is-refused c =
     sym (answer-read (c .before .before .before .before .before .before .before .before .args .bytes .now))
-    ∙ sym (c .before .before .before .before .read-sheet .ensures .0) ∙ c .read .given .1
+    ∙ sym (c .before .before .before .before .read-sheet .ensures .answers) ∙ c .read .given .1
 
 is-sheet : (c : tie.After-read2) → readOf (c .before .before .before .before .before .before .before .before .args .bytes .now) ≡ Sheet (c .read2 .given .0 .0)
 is-sheet c =
     sym (answer-read (c .before .before .before .before .before .before .before .before .args .bytes .now))
-    ∙ sym (c .before .before .before .before .read-sheet .ensures .0) ∙ c .read2 .given .1
-
-slice-aggregate-read-sheet : tie.Need-slice-aggregate-read-sheet
-slice-aggregate-read-sheet c = search needs
-
-slice-aggregate-read-sheet-2 : tie.Need-slice-aggregate-read-sheet-2
-slice-aggregate-read-sheet-2 c = search needs
-
-read-sheet-requires : tie.Need-read-sheet-requires
-read-sheet-requires c κs = search needs
-
-enum-known-read : tie.Need-enum-known-read
-enum-known-read c = search needs
-
-enum-known-read-2 : tie.Need-enum-known-read-2
-enum-known-read-2 c = search needs
+    ∙ sym (c .before .before .before .before .read-sheet .ensures .answers) ∙ c .read2 .given .1
 
 mul-cells : tie.Need-mul-cells
 mul-cells c =
@@ -49,7 +34,7 @@ array-share-prefix-values c =
     let h = t .read2 .given .0 .0 in
     let r = t .before .before .before .before .read-sheet in
     let bytes = t .before .before .before .before .before .before .before .before .args .bytes .now in
-    values-long bytes h (is-sheet t) (r .result) _ (r .last .1 .0) (t .read2 .given .1) (r .ensures .1 .0)
+    values-long bytes h (is-sheet t) (r .result) _ (r .last .1 .0) (t .read2 .given .1) (r .ensures .stored)
 
 slice-aggregate-find : tie.Need-slice-aggregate-find
 slice-aggregate-find c =
@@ -57,7 +42,7 @@ slice-aggregate-find c =
     let h = t .read2 .given .0 .0 in
     let r = t .before .before .before .before .read-sheet in
     let bytes = t .before .before .before .before .before .before .before .before .args .bytes .now in
-    sym (length-take-le _ (r .last .1 .0) (values-long bytes h (is-sheet t) (r .result) _ (r .last .1 .0) (t .read2 .given .1) (r .ensures .1 .0)))
+    sym (length-take-le _ (r .last .1 .0) (values-long bytes h (is-sheet t) (r .result) _ (r .last .1 .0) (t .read2 .given .1) (r .ensures .stored)))
 
 array-share-prefix-codes : tie.Need-array-share-prefix-codes
 array-share-prefix-codes c =
@@ -65,7 +50,7 @@ array-share-prefix-codes c =
     let h = t .read2 .given .0 .0 in
     let r = t .before .before .before .before .read-sheet in
     let bytes = t .before .before .before .before .before .before .before .before .args .bytes .now in
-    codes-long bytes h (is-sheet t) (r .result) _ (r .last .1 .1 .0) (t .read2 .given .1) (r .ensures .1 .1)
+    codes-long bytes h (is-sheet t) (r .result) _ (r .last .1 .1 .0) (t .read2 .given .1) (r .ensures .coded)
 
 slice-aggregate-find-2 : tie.Need-slice-aggregate-find-2
 slice-aggregate-find-2 c =
@@ -73,7 +58,7 @@ slice-aggregate-find-2 c =
     let h = t .read2 .given .0 .0 in
     let r = t .before .before .before .before .read-sheet in
     let bytes = t .before .before .before .before .before .before .before .before .args .bytes .now in
-    sym (length-take-le _ (r .last .1 .1 .0) (codes-long bytes h (is-sheet t) (r .result) _ (r .last .1 .1 .0) (t .read2 .given .1) (r .ensures .1 .1)))
+    sym (length-take-le _ (r .last .1 .1 .0) (codes-long bytes h (is-sheet t) (r .result) _ (r .last .1 .1 .0) (t .read2 .given .1) (r .ensures .coded)))
 
 find-requires : tie.Need-find-requires
 find-requires c κs =
@@ -81,7 +66,7 @@ find-requires c κs =
     let h = t .read2 .given .0 .0 in
     let r = t .before .before .before .before .read-sheet in
     let bytes = t .before .before .before .before .before .before .before .before .args .bytes .now in
-    values-prepare bytes h (is-sheet t) (r .result) _ (r .last .1 .0) (t .read2 .given .1) (r .ensures .1 .0)
+    values-prepare bytes h (is-sheet t) (r .result) _ (r .last .1 .0) (t .read2 .given .1) (r .ensures .stored)
 
 returns : tie.Need-returns
 returns c = let t = c .before in sym (refused _ _ _ (is-refused t))
@@ -93,23 +78,12 @@ returns-2 c =
     let r = t .before .before .before .before .read-sheet in
     let bytes = t .before .before .before .before .before .before .before .before .args .bytes .now in
     c .find .ensures
-    ∙ search-read bytes h (is-sheet t) _ _ (values-taken bytes h (is-sheet t) (r .result) _ (r .last .1 .0) (t .read2 .given .1) (r .ensures .1 .0))
-    (codes-taken bytes h (is-sheet t) (r .result) _ (r .last .1 .1 .0) (t .read2 .given .1) (r .ensures .1 .1))
+    ∙ search-read bytes h (is-sheet t) _ _ (values-taken bytes h (is-sheet t) (r .result) _ (r .last .1 .0) (t .read2 .given .1) (r .ensures .stored))
+    (codes-taken bytes h (is-sheet t) (r .result) _ (r .last .1 .1 .0) (t .read2 .given .1) (r .ensures .coded))
 
 pub answer-to-spec : {M : Type 1} → statement M
 answer-to-spec =
     tie.close
     (tie.spec
-    slice-aggregate-read-sheet
-    slice-aggregate-read-sheet-2
-    read-sheet-requires
-    enum-known-read
-    enum-known-read-2
-    mul-cells
-    array-share-prefix-values
-    slice-aggregate-find
-    array-share-prefix-codes
-    slice-aggregate-find-2
-    find-requires
-    returns
-    returns-2)
+    (λ c. search needs) (λ c. search needs) (λ c κs. search needs) (λ c. search needs) (λ c. search needs) mul-cells array-share-prefix-values
+    slice-aggregate-find array-share-prefix-codes slice-aggregate-find-2 find-requires returns returns-2)

@@ -8,15 +8,9 @@ use Rattle.sheet_bytes.proofs.bits_within.Tie as tie
 float-from-bits-in-range : tie.Need-float-from-bits-in-range
 float-from-bits-in-range c = no-nan (c .before .args .bits) (c .if1 .left)
 
-in-range-requires : tie.Need-in-range-requires
-in-range-requires c κs = search needs
-
 returns : tie.Need-returns
 returns c = sym (nan-refused (c .before .args .bits) (c .if1 .taken))
 
-returns-2 : tie.Need-returns-2
-returns-2 c = search needs
-
 pub bits-within-spec : {M : Type 1} → statement M
 bits-within-spec =
-    tie.close (tie.spec float-from-bits-in-range in-range-requires returns returns-2)
+    tie.close (tie.spec float-from-bits-in-range (λ c κs. search needs) returns (λ c. search needs))

@@ -3,13 +3,10 @@ use mathlib.Core.Path.{sym, _∙_}
 use borrow.Author.Needs.{needs}
 use Rattle.sheet_bytes.specs.declared.Read.the-variants.{Refused, Sheet}
 use Rattle.sheet.specs.Reasons.{termAbove, valueOutside, labelHigh}
-use Rattle.sheet_bytes.specs.Read.{cellsOf, termsBad, valueBad, codeBad, fromCodes, fromValues, fromTerms}
+use Rattle.sheet_bytes.specs.Read.{headCells, termsBad, valueBad, codeBad, fromCodes, fromValues, fromTerms}
 use Rattle.sheet_bytes.proofs.Stages.{chosen, passed, found-bad, found-none}
 use Rattle.sheet_bytes.proofs.check_cells.Statement.{statement}
 use Rattle.sheet_bytes.proofs.check_cells.Tie as tie
-
-terms-bad-requires : tie.Need-terms-bad-requires
-terms-bad-requires c κs = search needs
 
 returns : tie.Need-returns
 unfolding fromTerms fromValues fromCodes
@@ -19,12 +16,6 @@ returns c =
     sym
     (chosen (termsBad h) (Refused termAbove 0) (fromValues bytes h) (sym (c .before .terms-bad .ensures) ∙ c .if1 .taken))
 
-first-bad-value-requires : tie.Need-first-bad-value-requires
-first-bad-value-requires c κs = search needs
-
-mul-if2 : tie.Need-mul-if2
-mul-if2 c = search needs
-
 returns-2 : tie.Need-returns-2
 unfolding fromTerms fromValues fromCodes
 returns-2 c =
@@ -32,10 +23,7 @@ returns-2 c =
     let h = c .before .before .before .before .before .before .args .head in
     sym
     (passed (termsBad h) (Refused termAbove 0) (fromValues bytes h) (sym (c .before .before .before .before .terms-bad .ensures) ∙ c .before .before .before .if1 .left)
-    ∙ found-bad valueOutside (valueBad bytes h) (cellsOf h) (c .before .before .first-bad-value .result) (fromCodes bytes h) (c .before .before .first-bad-value .ensures) (c .if2 .taken))
-
-first-bad-code-requires : tie.Need-first-bad-code-requires
-first-bad-code-requires c κs = search needs
+    ∙ found-bad valueOutside (valueBad bytes h) (headCells h) (c .before .before .first-bad-value .result) (fromCodes bytes h) (c .before .before .first-bad-value .ensures) (c .if2 .taken))
 
 returns-3 : tie.Need-returns-3
 unfolding fromTerms fromValues fromCodes
@@ -44,8 +32,8 @@ returns-3 c =
     let h = c .before .before .before .before .before .before .before .before .before .args .head in
     sym
     (passed (termsBad h) (Refused termAbove 0) (fromValues bytes h) (sym (c .before .before .before .before .before .before .before .terms-bad .ensures) ∙ c .before .before .before .before .before .before .if1 .left)
-    ∙ found-none valueOutside (valueBad bytes h) (cellsOf h) (c .before .before .before .before .before .first-bad-value .result) (fromCodes bytes h) (c .before .before .before .before .before .first-bad-value .ensures) (c .before .before .before .if2 .left)
-    ∙ found-bad labelHigh (codeBad bytes h) (h .rows) (c .before .before .first-bad-code .result) (Sheet h) (c .before .before .first-bad-code .ensures) (c .if3 .taken))
+    ∙ found-none valueOutside (valueBad bytes h) (headCells h) (c .before .before .before .before .before .first-bad-value .result) (fromCodes bytes h) (c .before .before .before .before .before .first-bad-value .ensures) (c .before .before .before .if2 .left)
+    ∙ found-bad labelHigh (codeBad bytes h) (h .rows) (c .before .before .first-bad-row .result) (Sheet h) (c .before .before .first-bad-row .ensures) (c .if3 .taken))
 
 returns-4 : tie.Need-returns-4
 unfolding fromTerms fromValues fromCodes
@@ -54,18 +42,11 @@ returns-4 c =
     let h = c .before .before .before .before .before .before .before .before .before .args .head in
     sym
     (passed (termsBad h) (Refused termAbove 0) (fromValues bytes h) (sym (c .before .before .before .before .before .before .before .terms-bad .ensures) ∙ c .before .before .before .before .before .before .if1 .left)
-    ∙ found-none valueOutside (valueBad bytes h) (cellsOf h) (c .before .before .before .before .before .first-bad-value .result) (fromCodes bytes h) (c .before .before .before .before .before .first-bad-value .ensures) (c .before .before .before .if2 .left)
-    ∙ found-none labelHigh (codeBad bytes h) (h .rows) (c .before .before .first-bad-code .result) (Sheet h) (c .before .before .first-bad-code .ensures) (c .if3 .left))
+    ∙ found-none valueOutside (valueBad bytes h) (headCells h) (c .before .before .before .before .before .first-bad-value .result) (fromCodes bytes h) (c .before .before .before .before .before .first-bad-value .ensures) (c .before .before .before .if2 .left)
+    ∙ found-none labelHigh (codeBad bytes h) (h .rows) (c .before .before .first-bad-row .result) (Sheet h) (c .before .before .first-bad-row .ensures) (c .if3 .left))
 
 pub check-cells-spec : {M : Type 1} → statement M
 check-cells-spec =
     tie.close
     (tie.spec
-    terms-bad-requires
-    returns
-    first-bad-value-requires
-    mul-if2
-    returns-2
-    first-bad-code-requires
-    returns-3
-    returns-4)
+    (λ c κs. search needs) returns (λ c κs. search needs) (λ c. search needs) returns-2 (λ c κs. search needs) returns-3 returns-4)

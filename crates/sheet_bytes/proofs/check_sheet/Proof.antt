@@ -9,21 +9,12 @@ use Rattle.sheet_bytes.proofs.Stages.{chosen, passed, found-bad, found-
 use Rattle.sheet_bytes.proofs.check_sheet.Statement.{statement}
 use Rattle.sheet_bytes.proofs.check_sheet.Tie as tie
 
-head-bad-requires : tie.Need-head-bad-requires
-head-bad-requires c κs = search needs
-
 returns : tie.Need-returns
 unfolding readOf fromSize fromLarge fromRows fromEnd
 returns c =
     let bytes = c .before .before .before .args .bytes .now in
     sym
     (chosen (headBad bytes) (Refused headWrong 0) (fromSize bytes (headOf bytes)) (sym (c .before .head-bad .ensures) ∙ c .if1 .taken))
-
-head-of-requires : tie.Need-head-of-requires
-head-of-requires c κs = search needs
-
-size-bad-requires : tie.Need-size-bad-requires
-size-bad-requires c κs = search needs
 
 returns-2 : tie.Need-returns-2
 unfolding readOf fromSize fromLarge fromRows fromEnd
@@ -104,16 +95,5 @@ pub check-sheet-spec : {M : Type 1} → statement M
 check-sheet-spec =
     tie.close
     (tie.spec
-    head-bad-requires
-    returns
-    head-of-requires
-    size-bad-requires
-    returns-2
-    too-large-requires
-    returns-3
-    first-bad-row-requires
-    returns-4
-    has-further-requires
-    returns-5
-    check-cells-requires
-    returns-6)
+    (λ c κs. search needs) returns (λ c κs. search needs) (λ c κs. search needs) returns-2 too-large-requires returns-3 first-bad-row-requires
+    returns-4 has-further-requires returns-5 check-cells-requires returns-6)

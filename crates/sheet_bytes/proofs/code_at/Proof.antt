@@ -7,18 +7,6 @@ use Rattle.sheet_bytes.specs.Read.{codeOf}
 use Rattle.sheet_bytes.proofs.code_at.Statement.{statement}
 use Rattle.sheet_bytes.proofs.code_at.Tie as tie
 
-start-of-requires : tie.Need-start-of-requires
-start-of-requires c κs = search needs
-
-add-byte-at : tie.Need-add-byte-at
-add-byte-at c = search needs
-
-byte-at-requires : tie.Need-byte-at-requires
-byte-at-requires c κs = search needs
-
-cast-result : tie.Need-cast-result
-cast-result c = search needs
-
 returns : tie.Need-returns
 unfolding codeOf
 returns c =
@@ -26,4 +14,4 @@ returns c =
 
 pub code-at-spec : {M : Type 1} → statement M
 code-at-spec =
-    tie.close (tie.spec start-of-requires add-byte-at byte-at-requires cast-result returns)
+    tie.close (tie.spec (λ c κs. search needs) (λ c. search needs) (λ c κs. search needs) (λ c. search needs) returns)

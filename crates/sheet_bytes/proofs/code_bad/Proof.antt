@@ -6,15 +6,9 @@ use Rattle.sheet_bytes.specs.Read.{codeBad}
 use Rattle.sheet_bytes.proofs.code_bad.Statement.{statement}
 use Rattle.sheet_bytes.proofs.code_bad.Tie as tie
 
-code-at-requires : tie.Need-code-at-requires
-code-at-requires c κs = search needs
-
-cast-result : tie.Need-cast-result
-cast-result c = search needs
-
 returns : tie.Need-returns
 unfolding codeBad
 returns c = ap (leb (c .before .before .before .args .head .labels)) (c .before .code-at .ensures)
 
 pub code-bad-spec : {M : Type 1} → statement M
-code-bad-spec = tie.close (tie.spec code-at-requires cast-result returns)
+code-bad-spec = tie.close (tie.spec (λ c κs. search needs) (λ c. search needs) returns)

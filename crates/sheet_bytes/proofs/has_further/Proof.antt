@@ -8,12 +8,9 @@ use Rattle.sheet_bytes.specs.Read.{further}
 use Rattle.sheet_bytes.proofs.has_further.Statement.{statement}
 use Rattle.sheet_bytes.proofs.has_further.Tie as tie
 
-start-of-requires : tie.Need-start-of-requires
-start-of-requires c κs = search needs
-
 returns : tie.Need-returns
 unfolding further
 returns c = ap (λ (k : ℕ). ltb k (length (c .before .before .args .bytes .now))) (c .start-of .ensures .0)
 
 pub has-further-spec : {M : Type 1} → statement M
-has-further-spec = tie.close (tie.spec start-of-requires returns)
+has-further-spec = tie.close (tie.spec (λ c κs. search needs) returns)

@@ -6,14 +6,11 @@ use mathlib.Core.Bool.{not}
 use lib.Dec.{ltb}
 use borrow.Author.Tests.{lt-ltb, le-ltb}
 use Rattle.sheet_bytes.specs.Bytes.{marked, headMark}
-use Rattle.sheet_room.specs.Room.{headSize}
+use Rattle.sheet_bytes.specs.Room.{headSize}
 use Rattle.sheet_bytes.specs.Read.{headBad}
 use Rattle.sheet_bytes.proofs.Numbers.{or-yes, or-no}
 use Rattle.sheet_bytes.proofs.head_bad.Statement.{statement}
 use Rattle.sheet_bytes.proofs.head_bad.Tie as tie
-
-is-marked-requires : tie.Need-is-marked-requires
-is-marked-requires c κs = search needs
 
 returns : tie.Need-returns
 unfolding headBad
@@ -28,4 +25,4 @@ returns-2 c =
     ap not (c .is-marked .ensures) ∙ sym (or-no (ltb (length bytes) headSize) (not (marked headMark bytes 0)) (le-ltb (length bytes) headSize (c .before .if1 .left)))
 
 pub head-bad-spec : {M : Type 1} → statement M
-head-bad-spec = tie.close (tie.spec is-marked-requires returns returns-2)
+head-bad-spec = tie.close (tie.spec (λ c κs. search needs) returns returns-2)

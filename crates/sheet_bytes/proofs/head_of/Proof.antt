@@ -6,39 +6,6 @@ use Rattle.sheet_bytes.specs.Read.{headOf}
 use Rattle.sheet_bytes.proofs.head_of.Statement.{statement}
 use Rattle.sheet_bytes.proofs.head_of.Tie as tie
 
-pair-at-requires : tie.Need-pair-at-requires
-pair-at-requires c κs = search needs
-
-byte-at-requires : tie.Need-byte-at-requires
-byte-at-requires c κs = search needs
-
-byte-at-requires-2 : tie.Need-byte-at-requires-2
-byte-at-requires-2 c κs = search needs
-
-pair-at-requires-2 : tie.Need-pair-at-requires-2
-pair-at-requires-2 c κs = search needs
-
-cast-t9 : tie.Need-cast-t9
-cast-t9 c = search needs
-
-quad-at-requires : tie.Need-quad-at-requires
-quad-at-requires c κs = search needs
-
-cast-t11 : tie.Need-cast-t11
-cast-t11 c = search needs
-
-quad-at-requires-2 : tie.Need-quad-at-requires-2
-quad-at-requires-2 c κs = search needs
-
-cast-t13 : tie.Need-cast-t13
-cast-t13 c = search needs
-
-quad-at-requires-3 : tie.Need-quad-at-requires-3
-quad-at-requires-3 c κs = search needs
-
-cast-t15 : tie.Need-cast-t15
-cast-t15 c = search needs
-
 returns : tie.Need-returns
 unfolding headOf
 returns c =
@@ -56,15 +23,5 @@ pub head-of-spec : {M : Type 1} → statement M
 head-of-spec =
     tie.close
     (tie.spec
-    pair-at-requires
-    byte-at-requires
-    byte-at-requires-2
-    pair-at-requires-2
-    cast-t9
-    quad-at-requires
-    cast-t11
-    quad-at-requires-2
-    cast-t13
-    quad-at-requires-3
-    cast-t15
-    returns)
+    (λ c κs. search needs) (λ c κs. search needs) (λ c κs. search needs) (λ c κs. search needs) (λ c. search needs) (λ c κs. search needs)
+    (λ c. search needs) (λ c κs. search needs) (λ c. search needs) (λ c κs. search needs) (λ c. search needs) returns)

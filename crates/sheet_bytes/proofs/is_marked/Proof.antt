@@ -9,15 +9,6 @@ use Rattle.sheet_bytes.proofs.Numbers.{and-yes, and-no}
 use Rattle.sheet_bytes.proofs.is_marked.Statement.{statement}
 use Rattle.sheet_bytes.proofs.is_marked.Tie as tie
 
-byte-at-requires : tie.Need-byte-at-requires
-byte-at-requires c κs = search needs
-
-add-byte-at : tie.Need-add-byte-at
-add-byte-at c = search needs
-
-byte-at-requires-2 : tie.Need-byte-at-requires-2
-byte-at-requires-2 c κs = search needs
-
 returns : tie.Need-returns
 unfolding marked
 returns c =
@@ -38,4 +29,4 @@ returns-2 c =
 
 pub is-marked-spec : {M : Type 1} → statement M
 is-marked-spec =
-    tie.close (tie.spec byte-at-requires add-byte-at byte-at-requires-2 returns returns-2)
+    tie.close (tie.spec (λ c κs. search needs) (λ c. search needs) (λ c κs. search needs) returns returns-2)

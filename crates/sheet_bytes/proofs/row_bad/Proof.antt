@@ -8,22 +8,10 @@ use mathlib.Core.Bool.{not}
 use lib.Dec.{ltb}
 use borrow.Author.Tests.{lt-ltb, le-ltb}
 use Rattle.sheet_bytes.specs.Bytes.{marked, rowMark}
-use Rattle.sheet_bytes.specs.Read.{startOf, rowBad}
+use Rattle.sheet_bytes.specs.Read.{rowStart, rowBad}
 use Rattle.sheet_bytes.proofs.Numbers.{or-yes, or-no}
 use Rattle.sheet_bytes.proofs.row_bad.Statement.{statement}
 use Rattle.sheet_bytes.proofs.row_bad.Tie as tie
-
-add-start-of : tie.Need-add-start-of
-add-start-of c = search needs
-
-start-of-requires : tie.Need-start-of-requires
-start-of-requires c κs = search needs
-
-start-of-requires-2 : tie.Need-start-of-requires-2
-start-of-requires-2 c κs = search needs
-
-is-marked-requires : tie.Need-is-marked-requires
-is-marked-requires c κs = search needs
 
 returns : tie.Need-returns
 unfolding rowBad
@@ -31,9 +19,9 @@ returns c =
     let a = c .before .before .before .args in
     let bytes = a .bytes .now in
     let e : a .row + 1 ≡ suc (a .row) = omega arith in
-    let next : startOf (a .head .columns) (a .row + 1) ≡ startOf (a .head .columns) (suc (a .row)) = ap (startOf (a .head .columns)) e in
-    sym (or-yes (ltb (length bytes) (startOf (a .head .columns) (suc (a .row)))) (not (marked rowMark bytes (startOf (a .head .columns) (a .row))))
-    (lt-ltb (length bytes) (startOf (a .head .columns) (suc (a .row))) (omega (arith, next, c .before .start-of .ensures .0))))
+    let next : rowStart (a .head .columns) (a .row + 1) ≡ rowStart (a .head .columns) (suc (a .row)) = ap (rowStart (a .head .columns)) e in
+    sym (or-yes (ltb (length bytes) (rowStart (a .head .columns) (suc (a .row)))) (not (marked rowMark bytes (rowStart (a .head .columns) (a .row))))
+    (lt-ltb (length bytes) (rowStart (a .head .columns) (suc (a .row))) (omega (arith, next, c .before .start-of .ensures .0))))
 
 returns-2 : tie.Need-returns-2
 unfolding rowBad
@@ -41,18 +29,13 @@ returns-2 c =
     let a = c .before .before .before .before .before .args in
     let bytes = a .bytes .now in
     let e : a .row + 1 ≡ suc (a .row) = omega arith in
-    let next : startOf (a .head .columns) (a .row + 1) ≡ startOf (a .head .columns) (suc (a .row)) = ap (startOf (a .head .columns)) e in
+    let next : rowStart (a .head .columns) (a .row + 1) ≡ rowStart (a .head .columns) (suc (a .row)) = ap (rowStart (a .head .columns)) e in
     ap not (c .is-marked .ensures ∙ ap (marked rowMark bytes) (c .before .start-of2 .ensures .0))
-    ∙ sym (or-no (ltb (length bytes) (startOf (a .head .columns) (suc (a .row)))) (not (marked rowMark bytes (startOf (a .head .columns) (a .row))))
-    (le-ltb (length bytes) (startOf (a .head .columns) (suc (a .row))) (omega (arith, next, c .before .before .before .start-of .ensures .0))))
+    ∙ sym (or-no (ltb (length bytes) (rowStart (a .head .columns) (suc (a .row)))) (not (marked rowMark bytes (rowStart (a .head .columns) (a .row))))
+    (le-ltb (length bytes) (rowStart (a .head .columns) (suc (a .row))) (omega (arith, next, c .before .before .before .start-of .ensures .0))))
 
 pub row-bad-spec : {M : Type 1} → statement M
 row-bad-spec =
     tie.close
     (tie.spec
-    add-start-of
-    start-of-requires
-    start-of-requires-2
-    is-marked-requires
-    returns
-    returns-2)
+    (λ c. search needs) (λ c κs. search needs) (λ c κs. search needs) (λ c κs. search needs) returns returns-2)

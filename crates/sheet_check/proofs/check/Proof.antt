@@ -44,12 +44,8 @@ words k = length (k .args .scratch .now)
 
 -- ---- what each of them found
 
-size-found : (z : tie.After-size-holds) → z .size-holds .result ≡ sizeHolds (sheet (start z))
-unfolding sizeHolds
-size-found z = z .size-holds .ensures
-
 in-limits : (c : tie.Else1) → Limited (sheet (start (c .before)))
-in-limits c = limited (sheet (start (c .before))) (truth (sym (size-found (c .before)) ∙ not-false _ (c .if1 .left)))
+in-limits c = limited (sheet (start (c .before))) (truth (sym (c .before .size-holds .ensures) ∙ not-false _ (c .if1 .left)))
 
 in-shape : (c : tie.Else2) → Shaped (sheet (start (size (c .before))))
 in-shape c =
@@ -66,8 +62,8 @@ go1 : (c : tie.Else1) {r : Checked}
     → r ≡ checkOf (sheet (start (c .before))) (start (c .before) .args .terms) (words (start (c .before)))
 go1 c f =
     let k = start (c .before) in
-    whole-go sizeOutside (sizeHolds (sheet k)) (rest2 (sheet k) (k .args .terms) (words k))
-    (truth (sym (size-found (c .before)) ∙ not-false _ (c .if1 .left))) f
+    whole-go sizeOutside (sizeHolds (sheet k .rows) (sheet k .columns) (sheet k .labels)) (rest2 (sheet k) (k .args .terms) (words k))
+    (truth (sym (c .before .size-holds .ensures) ∙ not-false _ (c .if1 .left))) f
     ∙ sym (checked (sheet k) (k .args .terms) (words k))
 
 go2 : (c : tie.Else2) {r : Checked}
@@ -125,17 +121,17 @@ front-cleared n rows part scratch e h g =
 
 -- ---- the needs
 
-size-holds-requires : tie.Need-size-holds-requires
-size-holds-requires c κs = search needs
-
 returns : tie.Need-returns
 returns c =
-    let k = start (c .before) in (
-      whole-stop sizeOutside (sizeHolds (sheet k)) (rest2 (sheet k) (k .args .terms) (words k))
-          (untruth (sym (size-found (c .before)) ∙ not-true _ (c .if1 .taken)))
-          ∙ sym (checked (sheet k) (k .args .terms) (words k)),
-      untouched sizeOutside (k .args .size .rows) (k .args .scratch .now) (omega arith),
-    )
+    let k = start (c .before) in
+    record {
+      answers =
+          whole-stop sizeOutside (sizeHolds (sheet k .rows) (sheet k .columns) (sheet k .labels)) (rest2 (sheet k) (k .args .terms) (words k))
+          (untruth (sym (c .before .size-holds .ensures) ∙ not-true _ (c .if1 .taken)))
+          ∙ sym (checked (sheet k) (k .args .terms) (words k));
+      words =
+          untouched sizeOutside (k .args .size .rows) (k .args .scratch .now) (omega arith);
+    }
 
 lengths-hold-requires : tie.Need-lengths-hold-requires
 lengths-hold-requires c κs =
@@ -144,39 +140,42 @@ lengths-hold-requires c κs =
 
 returns-2 : tie.Need-returns-2
 returns-2 c =
-    let k = start (size (c .before)) in (
-      go1 (c .before .before)
+    let k = start (size (c .before)) in
+    record {
+      answers =
+          go1 (c .before .before)
           (whole-stop lengthWrong (lengthsHold (sheet k)) (rest3 (sheet k) (k .args .terms) (words k))
-          (untruth (sym (c .before .lengths-hold .ensures) ∙ not-true _ (c .if2 .taken)))),
-      untouched lengthWrong (k .args .size .rows) (k .args .scratch .now) (omega arith),
-    )
+          (untruth (sym (c .before .lengths-hold .ensures) ∙ not-true _ (c .if2 .taken))));
+      words =
+          untouched lengthWrong (k .args .size .rows) (k .args .scratch .now) (omega arith);
+    }
 
 mul-words : tie.Need-mul-words
 mul-words c = omega (arith, in-shape c .limited .rows-most)
 
 returns-3 : tie.Need-returns-3
 returns-3 c =
-    let k = start (size (c .before .before)) in (
-      go2 (c .before)
+    let k = start (size (c .before .before)) in
+    record {
+      answers =
+          go2 (c .before)
           (whole-stop scratchShort (scratchHolds (sheet k) (words k)) (rest4 (sheet k) (k .args .terms) (words k))
-          (untruth (room-short (sheet k) (words k) (c .if3 .taken)))),
-      untouched scratchShort (k .args .size .rows) (k .args .scratch .now) (omega arith),
-    )
-
-terms-hold-requires : tie.Need-terms-hold-requires
-terms-hold-requires c κs = search needs
+          (untruth (room-short (sheet k) (words k) (c .if3 .taken))));
+      words =
+          untouched scratchShort (k .args .size .rows) (k .args .scratch .now) (omega arith);
+    }
 
 returns-4 : tie.Need-returns-4
 returns-4 c =
-    let k = start (size (lengths (c .before))) in (
-      go3 (c .before .before)
+    let k = start (size (lengths (c .before))) in
+    record {
+      answers =
+          go3 (c .before .before)
           (whole-stop termAbove (termsHold (k .args .terms)) (contentOf (sheet k))
-          (untruth (sym (c .before .terms-hold .ensures) ∙ not-true _ (c .if4 .taken)))),
-      untouched termAbove (k .args .size .rows) (k .args .scratch .now) (omega arith),
-    )
-
-slice-relend-prefix-check-lists : tie.Need-slice-relend-prefix-check-lists
-slice-relend-prefix-check-lists c = search needs
+          (untruth (sym (c .before .terms-hold .ensures) ∙ not-true _ (c .if4 .taken))));
+      words =
+          untouched termAbove (k .args .size .rows) (k .args .scratch .now) (omega arith);
+    }
 
 slice-aggregate-check-lists : tie.Need-slice-aggregate-check-lists
 slice-aggregate-check-lists c =
@@ -190,40 +189,25 @@ check-lists-requires c κs =
       length-take-le (k .args .size .rows) (k .args .scratch .now) (omega (arith, c .before .before .before .if3 .left)),
     )
 
-clear-requires : tie.Need-clear-requires
-clear-requires c κs = search needs
-
-same-length : tie.Need-same-length
-same-length c = search needs
-
 returns-5 : tie.Need-returns-5
 returns-5 c =
     let a = c .before .before .before .before .before .before in
     let d = a .before .before in
-    let k = start (size (lengths (d .before))) in (
-      go4 d (a .check-lists .ensures),
-      c .before .before .clear .ensures
+    let k = start (size (lengths (d .before))) in
+    record {
+      answers =
+          go4 d (a .check-lists .ensures);
+      words =
+          c .before .before .clear .ensures
           ∙ front-cleared (wordsPerRow * k .args .size .rows) (k .args .size .rows) (a .check-lists .last .1 .1 .1 .1 .1 .1 .0) (k .args .scratch .now)
           (a .check-lists .kept .1 .1 .1 .1 .1 .1 .0) (omega arith) (d .before .before .if3 .left)
           ∙ sym (content-clears (sheet k) (k .args .size .rows) (k .args .scratch .now))
-          ∙ ap (λ r. scratchAfter r (k .args .size .rows) (k .args .scratch .now)) (sym (a .check-lists .ensures)),
-    )
+          ∙ ap (λ r. scratchAfter r (k .args .size .rows) (k .args .scratch .now)) (sym (a .check-lists .ensures));
+    }
 
 pub check-spec : {M : Type 1} → statement M
 check-spec =
     tie.close
     (tie.spec
-    size-holds-requires
-    returns
-    lengths-hold-requires
-    returns-2
-    mul-words
-    returns-3
-    terms-hold-requires
-    returns-4
-    slice-relend-prefix-check-lists
-    slice-aggregate-check-lists
-    check-lists-requires
-    clear-requires
-    same-length
-    returns-5)
+    (λ c κs. search needs) returns lengths-hold-requires returns-2 mul-words returns-3 (λ c κs. search needs) returns-4 (λ c. search needs)
+    slice-aggregate-check-lists check-lists-requires (λ c κs. search needs) (λ c. search needs) returns-5)

@@ -115,9 +115,6 @@ go8 c f =
 
 -- ---- the needs
 
-first-bad-value-requires : tie.Need-first-bad-value-requires
-first-bad-value-requires c κs = search needs
-
 returns : tie.Need-returns
 returns c =
     let k = start (c .before) in
@@ -125,21 +122,12 @@ returns c =
     (value-at (c .before)) (omega (arith, c .if1 .taken, k .pre .0 .lengths .values-all))
     ∙ sym (content (sheet k))
 
-first-bad-label-requires : tie.Need-first-bad-label-requires
-first-bad-label-requires c κs = search needs
-
 returns-2 : tie.Need-returns-2
 returns-2 c =
     let k = start (value (c .before)) in
     go5 (c .before .before)
     (reason-stop labelHigh (k .args .size .rows) (badLabel (k .args .codes .now) (k .args .size .labels)) (rest7 (sheet k))
     (c .before .first-bad-label .result) (label-at (c .before)) (omega (arith, c .if2 .taken, k .pre .0 .lengths .codes-all)))
-
-first-bad-order-requires : tie.Need-first-bad-order-requires
-first-bad-order-requires c κs = search needs
-
-same-length : tie.Need-same-length
-same-length c = search needs
 
 returns-3 : tie.Need-returns-3
 returns-3 c =
@@ -161,9 +149,6 @@ clean c =
 first-fall-requires : tie.Need-first-fall-requires
 first-fall-requires c κs = clean c
 
-same-length-2 : tie.Need-same-length-2
-same-length-2 c = search needs
-
 returns-4 : tie.Need-returns-4
 returns-4 c =
     let k = start (value (label (order (c .before)))) in
@@ -176,18 +161,12 @@ first-bad-cuts-requires c κs =
     let k = start (value (label (order (c .before)))) in
     record { listed = clean (c .before .before); cuts-all = k .pre .0 .lengths .cuts-all; counts-all = k .pre .0 .lengths .counts-all }
 
-same-length-3 : tie.Need-same-length-3
-same-length-3 c = search needs
-
 returns-5 : tie.Need-returns-5
 returns-5 c =
     let k = start (value (label (order (fall (c .before))))) in
     go8 (c .before .before)
     (reason-stop cutsWrong (k .args .size .columns) (badCuts (sheet k)) Accepted (c .before .first-bad-cuts .result) (cuts-at (c .before))
     (omega (arith, c .if5 .taken, k .pre .0 .lengths .counts-all)))
-
-same-length-4 : tie.Need-same-length-4
-same-length-4 c = search needs
 
 returns-6 : tie.Need-returns-6
 returns-6 c =
@@ -200,18 +179,5 @@ pub check-lists-spec : {M : Type 1} → statement M
 check-lists-spec =
     tie.close
     (tie.spec
-    first-bad-value-requires
-    returns
-    first-bad-label-requires
-    returns-2
-    first-bad-order-requires
-    same-length
-    returns-3
-    first-fall-requires
-    same-length-2
-    returns-4
-    first-bad-cuts-requires
-    same-length-3
-    returns-5
-    same-length-4
-    returns-6)
+    (λ c κs. search needs) returns (λ c κs. search needs) returns-2 (λ c κs. search needs) (λ c. search needs) returns-3 first-fall-requires
+    (λ c. search needs) returns-4 first-bad-cuts-requires (λ c. search needs) returns-5 (λ c. search needs) returns-6)

@@ -4,11 +4,8 @@ use borrow.Author.Needs.{needs}
 use Rattle.side_scan.proofs.side_of.Statement.{statement}
 use Rattle.side_scan.proofs.side_of.Tie as tie
 
-commonest-label-requires : tie.Need-commonest-label-requires
-commonest-label-requires c κs = search needs
-
-sub-t7 : tie.Need-sub-t7
-sub-t7 c =
+sub-t11 : tie.Need-sub-t11
+sub-t11 c =
     let l = c .before .before .before .before .before .before in
     leaf-within (l .before .before .before .args .side) (l .commonest-label .result) (l .commonest-label .ensures) (l .before .before .before .pre)
 
@@ -19,8 +16,8 @@ returns c =
 
 returns-2 : tie.Need-returns-2
 returns-2 c =
-    let l = c .before .before .before .before in
-    splits (l .before .before .before .args .side) (l .commonest-label .result) (l .commonest-label .ensures) (c .if1 .left)
+    let l = c .before .before .before .before .before .before .before in
+    splits (l .before .before .before .args .side) (l .commonest-label .result) (l .commonest-label .ensures) (c .before .before .before .if1 .left)
 
 pub side-of-spec : {M : Type 1} → statement M
-side-of-spec = tie.close (tie.spec commonest-label-requires sub-t7 returns returns-2)
+side-of-spec = tie.close (tie.spec (λ c κs. search needs) sub-t11 returns returns-2)

@@ -11,9 +11,9 @@ use lib.Ieee.{Float}
 use Rattle.basics.specs.Choice.{pick}
 use Rattle.side_scan.specs.declared.SideScan.{SideScan}
 use Rattle.side_scan.specs.OneSide.{rowsLeft, countRow, raised, stepOf}
-use Rattle.cut_score.specs.Scored.{Scorable}
+use Rattle.side_scan.specs.Scored.{Scorable}
 use Rattle.side_scan.specs.Step.{Ready}
-use Rattle.cut_score.proofs.Scored.{first-in, second-in}
+use Rattle.side_scan.proofs.Scored.{first-in, second-in}
 use Rattle.side_scan.proofs.Steps.{counting, scorable, stays-closed, only, cuts}
 use Rattle.side_scan.proofs.step.Statement.{statement}
 use Rattle.side_scan.proofs.step.Tie as tie
@@ -22,12 +22,6 @@ returns : tie.Need-returns
 returns c =
     let a = c .before .args in
     stays-closed (a .side) (a .column) (a .label) (a .value) (c .if1 .taken)
-
-fall-requires : tie.Need-fall-requires
-fall-requires c κs = search needs
-
-is-quiet-requires : tie.Need-is-quiet-requires
-is-quiet-requires c κs = search needs
 
 -- at the test whether the row is only counted
 module _ (c : tie.After-is-quiet) where
@@ -62,8 +56,8 @@ module _ (c : tie.After-find-peaks) where
         second-in (t .own) (t .seen) (t .labels) (t .counted) (t .size) (to-score at) (k .result) (k .ensures),
       )
 
-judge-requires : tie.Need-judge-requires
-judge-requires c κs = omega (arith, in-part c .0, in-part c .1, ready (at c) .more, ready (at c) .small)
+judge-cut-requires : tie.Need-judge-cut-requires
+judge-cut-requires c κs = omega (arith, in-part c .0, in-part c .1, ready (at c) .more, ready (at c) .small)
 
 split-of-requires : tie.Need-split-of-requires
 split-of-requires c κs =
@@ -156,17 +150,5 @@ pub step-spec : {M : Type 1} → statement M
 step-spec =
     tie.close
     (tie.spec
-    returns
-    fall-requires
-    is-quiet-requires
-    sub-rest
-    find-peaks-requires
-    judge-requires
-    split-of-requires
-    mul-seen
-    array-read-seen
-    add-seen
-    mul-seen-2
-    array-write-seen
-    add-side
-    returns-2)
+    returns (λ c κs. search needs) (λ c κs. search needs) sub-rest find-peaks-requires judge-cut-requires split-of-requires mul-seen array-read-seen
+    add-seen mul-seen-2 array-write-seen add-side returns-2)

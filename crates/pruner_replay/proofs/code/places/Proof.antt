@@ -15,24 +15,6 @@ Inv-loop list₀ mask rest₀ count₀ place₀ list rest count place = (count �
 abbrev μ-loop : tie.MeasureT-loop
 μ-loop list₀ mask rest₀ count₀ place₀ list rest count place = 9 - place
 
-loop-holds : tie.Need-loop-holds Inv-loop μ-loop
-loop-holds c = search needs
-
-mul-list : tie.Need-mul-list Inv-loop μ-loop
-mul-list c = search needs
-
-slice-write-list : tie.Need-slice-write-list Inv-loop μ-loop
-slice-write-list c = search needs
-
-add-count : tie.Need-add-count Inv-loop μ-loop
-add-count c = search needs
-
-add-place : tie.Need-add-place Inv-loop μ-loop
-add-place c = search needs
-
-loop-less : tie.Need-loop-less Inv-loop μ-loop
-loop-less c = search needs
-
 -- what the turn leaves, by the list's length after the `if`
 kept : (c : tie.Joined1 Inv-loop μ-loop) → length (c .if1 .list) ≡ length (c .before .before .loop .list)
 kept c = ⊎-elim (λ w. ap length (w .2) ∙ simp length-set) (⊎-elim (λ w. ap length (w .2)) (λ w. ap length (w .1))) (c .if1 .came)
@@ -43,9 +25,6 @@ loop-again c =
     let room : c .if1 .count ≤ length (c .if1 .list) = ⊎-elim (λ w. omega arith) (⊎-elim (λ w. omega arith) (λ w. omega arith)) (c .if1 .came) in
     (room, omega arith, omega arith)
 
-same-length : tie.Need-same-length Inv-loop μ-loop
-same-length c = search needs
-
 returns : tie.Need-returns Inv-loop μ-loop
 returns c =
     let l = c .before .loop in
@@ -55,14 +34,5 @@ pub places-spec : {M : Type 1} → statement M
 places-spec =
     tie.close
     (tie.spec
-    Inv-loop
-    μ-loop
-    loop-holds
-    mul-list
-    slice-write-list
-    add-count
-    add-place
-    loop-less
-    loop-again
-    same-length
-    returns)
+    Inv-loop μ-loop (λ c. search needs) (λ c. search needs) (λ c. search needs) (λ c. search needs) (λ c. search needs) (λ c. search needs) loop-again
+    (λ c. search needs) returns)

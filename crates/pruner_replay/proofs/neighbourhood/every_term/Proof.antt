@@ -10,41 +10,9 @@ Inv-loop cuts bound zeros all₀ term₀ all term = term ≤ 560
 abbrev μ-loop : tie.MeasureT-loop
 μ-loop cuts bound zeros all₀ term₀ all term = 560 - term
 
-loop-holds : tie.Need-loop-holds Inv-loop μ-loop
-loop-holds c = search needs
-
-wide-requires : tie.Need-wide-requires Inv-loop μ-loop
-wide-requires c κs = search needs
-
-parts-requires : tie.Need-parts-requires Inv-loop μ-loop
-parts-requires c κs = search needs
-
-told-requires : tie.Need-told-requires Inv-loop μ-loop
-told-requires c κs = search needs
-
-add-term : tie.Need-add-term Inv-loop μ-loop
-add-term c = search needs
-
-loop-less : tie.Need-loop-less Inv-loop μ-loop
-loop-less c = search needs
-
-loop-again : tie.Need-loop-again Inv-loop μ-loop
-loop-again c = search needs
-
-returns : tie.Need-returns Inv-loop μ-loop
-returns c = search needs
-
 pub every-term-spec : {M : Type 1} → statement M
 every-term-spec =
     tie.close
     (tie.spec
-    Inv-loop
-    μ-loop
-    loop-holds
-    wide-requires
-    parts-requires
-    told-requires
-    add-term
-    loop-less
-    loop-again
-    returns)
+    Inv-loop μ-loop (λ c. search needs) (λ c κs. search needs) (λ c κs. search needs) (λ c κs. search needs) (λ c. search needs) (λ c. search needs)
+    (λ c. search needs) (λ c. search needs))

@@ -6,12 +6,6 @@ use borrow.Author.Needs.{needs}
 use Rattle.replay.proofs.judged.cells_of.Statement.{statement}
 use Rattle.replay.proofs.judged.cells_of.Tie as tie
 
-returns : tie.Need-returns
-returns c = search needs
-
-returns-2 : tie.Need-returns-2
-returns-2 c = search needs
-
 mul-cells : tie.Need-mul-cells
 mul-cells c =
     let rows = c .before .before .args .rows in
@@ -20,11 +14,5 @@ mul-cells c =
     let few : columns ≤ 16 = search needs in
     record { fits = omega arith }
 
-smaller-requires : tie.Need-smaller-requires
-smaller-requires c κs = search needs
-
-returns-3 : tie.Need-returns-3
-returns-3 c = search needs
-
 pub cells-of-spec : {M : Type 1} → statement M
-cells-of-spec = tie.close (tie.spec returns returns-2 mul-cells smaller-requires returns-3)
+cells-of-spec = tie.close (tie.spec (λ c. search needs) (λ c. search needs) mul-cells (λ c κs. search needs) (λ c. search needs))

@@ -1,3 +1,0 @@
-pub mod Commonest
-pub mod Running
-pub mod Leaf

@@ -1,2 +1,0 @@
-pub mod Commonest
-pub mod Counts

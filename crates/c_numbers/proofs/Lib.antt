@@ -1,2 +1,0 @@
--- Laws of the call's numbers.
-pub mod Reading

@@ -1,2 +1,0 @@
--- Laws of the words of a scan's answer.
-pub mod Words

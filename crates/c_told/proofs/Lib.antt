@@ -1,3 +1,0 @@
--- Laws of what is told.
-pub mod Telling
-pub mod Writing

@@ -1,2 +1,0 @@
--- Laws of the words of a search's answer.
-pub mod Words

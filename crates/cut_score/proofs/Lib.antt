@@ -1,2 +1,0 @@
-pub mod Judged
-pub mod Scored

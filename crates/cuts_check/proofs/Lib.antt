@@ -1,2 +1,0 @@
--- What is listed so far, for the functions here.
-mod Matched

@@ -1,2 +1,0 @@
--- What is seen row by row, for the functions here.
-mod Passing

@@ -1,2 +1,0 @@
--- What the marks say, for the functions here.
-mod Marks

@@ -1,0 +1,19 @@
+-- `sheet::grid_holds` meets its contract. Assumes nothing.
+use mathlib.Core.Path.{sym, _∙_}
+use borrow.Author.Tests.{not-true, not-false}
+use Rattle.sheet.specs.Check.{gridHolds}
+use Rattle.sheet.proofs.Search.{go, stop}
+use borrow.Author.Needs.{needs}
+use Rattle.sheet.proofs.grid_holds.Statement.{statement}
+use Rattle.sheet.proofs.grid_holds.Tie as tie
+
+returns : tie.Need-returns
+unfolding gridHolds
+returns c = sym (stop _ (sym (c .before .is-between .ensures) ∙ not-true _ (c .if1 .taken)))
+
+returns-2 : tie.Need-returns-2
+unfolding gridHolds
+returns-2 c = sym (go (sym (c .before .before .is-between .ensures) ∙ not-false _ (c .before .if1 .left)) (sym (c .is-between2 .ensures)))
+
+pub grid-holds-spec : {M : Type 1} → statement M
+grid-holds-spec = tie.close (tie.spec (λ c κs. search needs) returns (λ c κs. search needs) returns-2)

@@ -1,6 +1,0 @@
-pub mod Counts
-pub mod Live
-pub mod Single
-pub mod Coupled
-pub mod Places
-pub mod Rows
