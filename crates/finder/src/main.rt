@@ -6,7 +6,7 @@ ghost use lib.ListN.{length, take};
 ghost use Rattle.io.specs.Counts.{Counts};
 ghost use Rattle.listing.specs.Listing.{listingOf};
 ghost use Rattle.rule_finder.specs.Run.{runOf};
-ghost use Rattle.finder.specs.Input.{bytesKept};
+ghost use Rattle.finder.specs.Input.{bytesRead};
 use libc::STDIN_FILENO;
 use libc::STDOUT_FILENO;
 use listing::LONGEST;
@@ -18,7 +18,7 @@ enum Input {
 }
 
 fn read_input(bytes: &mut [u8]) -> Input
-    ensures { λ r. ⌜ bytesKept r ≤ length (now (bytes .exit)) ⌝ }
+    ensures { λ r. ⌜ bytesRead r ≤ length (now (bytes .exit)) ⌝ }
 {
     let mut count: usize = 0;
     while count < bytes.len() {

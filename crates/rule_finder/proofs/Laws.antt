@@ -93,7 +93,7 @@ within answer out = go (leb longest (length out))
     go false = unfold pick in omega arith
 
 pub written-within : WrittenWithin
-written-within bytes out count after o = omega (arith, o .count-is, ap length (o .text-is), within (runOf bytes) out)
+written-within bytes out count after o = omega (arith, o .says, ap length (o .holds), within (runOf bytes) out)
 
 said : (answer : Answer) (out : List ℕ) → longest ≤ length out → take (writtenOf answer out) (outOf answer out) ≡ listingOf answer
 unfolding writtenOf outOf
@@ -104,7 +104,7 @@ said answer out room =
     ∙ take-append-seam text (drop (length text) out)
 
 pub text-written : TextWritten
-text-written bytes out count after o room = ap₂ take (o .count-is) (o .text-is) ∙ said (runOf bytes) out room
+text-written bytes out count after o room = ap₂ take (o .says) (o .holds) ∙ said (runOf bytes) out room
 
 pub outcomes-coincide : RunsCoincide
-outcomes-coincide bytes out m n after other a b = (a .count-is ∙ sym (b .count-is), a .text-is ∙ sym (b .text-is))
+outcomes-coincide bytes out m n after other a b = (a .says ∙ sym (b .says), a .holds ∙ sym (b .holds))

@@ -8,7 +8,7 @@ use Rattle.sheet.specs.declared.Checked.the-variants.{Accepted}
 use Rattle.sheet.specs.Check.{checkOf}
 use Rattle.tree.specs.declared.Answer.the-variants.{TurnedBack}
 use Rattle.tree.specs.Answer.{turnedBack}
-use Rattle.listing.specs.Listing.{listingOf, longest, writtenOf, outOf}
+use Rattle.listing.specs.Listing.{listingOf, longest, ListedIn}
 use Rattle.certificate.specs.Certificate.{Certified}
 use Rattle.sheet_bytes.specs.declared.Head.{Head}
 use Rattle.sheet_bytes.specs.declared.Read.the-variants.{Refused, Sheet}
@@ -46,21 +46,16 @@ NoneLonger = (bytes : List ℕ) (h : Head) → readOf bytes ≡ Sheet h → leng
 abbrev pub OneMoreSuffices : Type 0
 OneMoreSuffices = (bytes : List ℕ) → runOf (take (largestSheet + 1) bytes) ≡ runOf bytes
 
--- what the contract of `run` says of an outcome: how many bytes were written, and the memory afterwards
-pub record RunOutcome (bytes out : List ℕ) (count : ℕ) (after : List ℕ) : Type 0 where
-  pub count-is : count ≡ writtenOf (runOf bytes) out
-  pub text-is : after ≡ outOf (runOf bytes) out
-
 -- what was written lies within the memory
 abbrev pub WrittenWithin : Type 0
-WrittenWithin = (bytes out : List ℕ) (count : ℕ) (after : List ℕ) → RunOutcome bytes out count after → count ≤ length after
+WrittenWithin = (bytes out : List ℕ) (count : ℕ) (after : List ℕ) → ListedIn (runOf bytes) out count after → count ≤ length after
 
 -- and where there is room for every answer it is the answer's text
 abbrev pub TextWritten : Type 0
 TextWritten =
-    (bytes out : List ℕ) (count : ℕ) (after : List ℕ) → RunOutcome bytes out count after → longest ≤ length out → take count after ≡ listingOf (runOf bytes)
+    (bytes out : List ℕ) (count : ℕ) (after : List ℕ) → ListedIn (runOf bytes) out count after → longest ≤ length out → take count after ≡ listingOf (runOf bytes)
 
 -- "show that two outcomes fitting the contract coincide"
 abbrev pub RunsCoincide : Type 0
 RunsCoincide =
-    (bytes out : List ℕ) (m n : ℕ) (after other : List ℕ) → RunOutcome bytes out m after → RunOutcome bytes out n other → (m ≡ n) × (after ≡ other)
+    (bytes out : List ℕ) (m n : ℕ) (after other : List ℕ) → ListedIn (runOf bytes) out m after → ListedIn (runOf bytes) out n other → (m ≡ n) × (after ≡ other)

@@ -9,8 +9,8 @@ use Rattle.finder.proofs.answer.Tie as tie
 returns : tie.Need-returns
 returns c =
     let r = c .run in (
-      counts (r .result) (r .last .1 .0) (written-within _ _ (r .result) (r .last .1 .0) (record { count-is = r .ensures .0; text-is = r .ensures .1 })),
-      text-written _ _ (r .result) (r .last .1 .0) (record { count-is = r .ensures .0; text-is = r .ensures .1 }) (omega arith),
+      counts (r .result) (r .last .1 .0) (written-within _ _ (r .result) (r .last .1 .0) (r .ensures)),
+      text-written _ _ (r .result) (r .last .1 .0) (r .ensures) (omega arith),
     )
 
 pub answer-spec : {M : Type 1} → statement M
