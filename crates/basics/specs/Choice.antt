@@ -1,4 +1,4 @@
--- A choice by a test, and what may be missing. Definitions only.
+-- For a signer. A choice by a test, and what may be missing. Definitions only.
 use Prim.Native.Nat.{ℕ}
 use mathlib.Core.Bool.{Bool, true, false}
 use mathlib.Core.Option.{Option, none, some}

@@ -1,4 +1,4 @@
--- Members, sums and counts of a list. Definitions only.
+-- For a signer. Members, sums and counts of a list. Definitions only.
 use Prim.Native.Nat.{ℕ, zero, suc, _+_}
 use mathlib.Core.Bool.{Bool}
 use mathlib.Core.List.{List, [], _∷_}

@@ -1,4 +1,4 @@
--- The first number that passes a test, by a plain walk. Definitions only.
+-- For a signer. The first number that passes a test, by a plain walk. Definitions only.
 use Prim.Native.Nat.{ℕ, zero, suc, _+_, _≤_, _<_}
 use mathlib.Core.Bool.{Bool, not}
 use lib.Dec.{T}

@@ -1,4 +1,4 @@
--- A narrow number made as wide as an index. Definitions only.
+-- For a signer. A narrow number made as wide as an index. Definitions only.
 use mathlib.Core.Path.{_≡_}
 use Prim.Native.Nat.{ℕ, _<_, _^_}
 

@@ -4,14 +4,14 @@ use Prim.Native.Nat.{ℕ}
 use mathlib.Core.List.{List}
 use Rattle.sheet.specs.declared.Checked.{Checked}
 use Rattle.sheet.specs.declared.Checked.the-variants as checked
-use Rattle.c_face.specs.Told.{turnedBackWords, taken, told, checkedTold}
+use Rattle.c_face.specs.Told.{saysTurnedBack, saysTaken, told, checkedTold}
 
-pub checked-accepted : (r : Checked) → r ≡ checked.Accepted → (now xs : List ℕ) → now ≡ told taken 0 0 xs → now ≡ checkedTold r xs
+pub checked-accepted : (r : Checked) → r ≡ checked.Accepted → (now xs : List ℕ) → now ≡ told saysTaken 0 0 xs → now ≡ checkedTold r xs
 unfolding checkedTold
 checked-accepted r e now xs h = h ∙ ap (λ (t : Checked). checkedTold t xs) (sym e)
 
 pub checked-refused : (r : Checked) (number place : ℕ) → r ≡ checked.Refused number place → (now xs : List ℕ)
-    → now ≡ told turnedBackWords number place xs → now ≡ checkedTold r xs
+    → now ≡ told saysTurnedBack number place xs → now ≡ checkedTold r xs
 unfolding checkedTold
 checked-refused r number place e now xs h = h ∙ ap (λ (t : Checked). checkedTold t xs) (sym e)
 

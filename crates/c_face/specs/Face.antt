@@ -1,4 +1,4 @@
--- What is answered for the numbers that a call from C hands over. Definitions only.
+-- For a signer. What is answered for the numbers that a call from C hands over. Definitions only.
 use mathlib.Core.Path.{_≡_}
 use Prim.Native.Nat.{ℕ}
 use mathlib.Core.List.{List}

@@ -1,4 +1,4 @@
--- The numbers that a call from C hands over; one that is not there counts as 0. Definitions only.
+-- For a signer. The numbers that a call from C hands over; one that is not there counts as 0. Definitions only.
 use Prim.Native.Nat.{ℕ}
 use mathlib.Core.List.{List}
 use lib.ListN.{getD}

@@ -1,4 +1,4 @@
--- The words that a search answers. Definitions only.
+-- For a signer. The words that a search answers. Definitions only.
 use Prim.Native.Nat.{ℕ}
 use mathlib.Core.List.{List, [], _∷_, _++_}
 use lib.ListN.{replicate}

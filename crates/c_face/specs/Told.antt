@@ -1,4 +1,4 @@
--- What the check and the preparer tell a C caller, and how words come into a lent answer. Definitions only.
+-- For a signer. What the check and the preparer tell a C caller, and how words come into a lent answer. Definitions only.
 use Prim.Native.Nat.{ℕ}
 use mathlib.Core.List.{List, [], _∷_, _++_}
 use lib.ListN.{length, drop}
@@ -14,11 +14,11 @@ unfoldable pub written : List ℕ → List ℕ → List ℕ
 written words answer = pick (leb (length words) (length answer)) (words ++ drop (length words) answer) answer
 
 -- what the first word says
-abbrev pub turnedBackWords : ℕ
-turnedBackWords = 0
+abbrev pub saysTurnedBack : ℕ
+saysTurnedBack = 0
 
-abbrev pub taken : ℕ
-taken = 1
+abbrev pub saysTaken : ℕ
+saysTaken = 1
 
 -- three words
 abbrev pub told : ℕ → ℕ → ℕ → List ℕ → List ℕ
@@ -26,13 +26,13 @@ told kind reason place answer = written (kind ∷ reason ∷ place ∷ []) answe
 
 -- "Turned back (number, place)", or 1, 0, 0
 unfoldable pub checkedTold : Checked → List ℕ → List ℕ
-checkedTold checked.Accepted answer = told taken 0 0 answer
-checkedTold (checked.Refused number place) answer = told turnedBackWords number place answer
+checkedTold checked.Accepted answer = told saysTaken 0 0 answer
+checkedTold (checked.Refused number place) answer = told saysTurnedBack number place answer
 
 -- the preparer's answer as one of the check, and told as such
-unfoldable pub checkedOf : Prepared → Checked
-checkedOf prepared.Done = checked.Accepted
-checkedOf (prepared.Refused number place) = checked.Refused number place
+unfoldable pub asChecked : Prepared → Checked
+asChecked prepared.Done = checked.Accepted
+asChecked (prepared.Refused number place) = checked.Refused number place
 
 abbrev pub preparedTold : Prepared → List ℕ → List ℕ
-preparedTold done answer = checkedTold (checkedOf done) answer
+preparedTold done answer = checkedTold (asChecked done) answer

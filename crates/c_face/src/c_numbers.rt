@@ -2,6 +2,7 @@
 ghost use mathlib.Core.Path.{_≡_};
 ghost use lib.ListN.{getD};
 ghost use Rattle.c_face.specs.Numbers.{sizeIn, termsIn};
+ghost use Rattle.basics.specs.Lent.{before};
 use sheet::Size;
 use sheet::Terms;
 
@@ -22,7 +23,7 @@ const BOUND: usize = 6;
 
 // A number of the call; 0 if it is not there.
 fn number(numbers: &[u32], at: usize) -> u32
-    ensures { λ r. ⌜ r ≡ getD (now (numbers .entry)) at 0 ⌝ }
+    ensures { λ r. ⌜ r ≡ getD (before numbers) at 0 ⌝ }
 {
     if at < numbers.len() {
         return numbers[at];
@@ -31,14 +32,14 @@ fn number(numbers: &[u32], at: usize) -> u32
 }
 
 pub(crate) fn size_number(numbers: &[u32], at: usize) -> usize
-    ensures { λ r. ⌜ r ≡ getD (now (numbers .entry)) at 0 ⌝ }
+    ensures { λ r. ⌜ r ≡ getD (before numbers) at 0 ⌝ }
 {
     let n = number(numbers, at);
     n as usize
 }
 
 pub(crate) fn size_in(numbers: &[u32]) -> Size
-    ensures { λ r. ⌜ r ≡ sizeIn (now (numbers .entry)) ⌝ }
+    ensures { λ r. ⌜ r ≡ sizeIn (before numbers) ⌝ }
 {
     let rows = size_number(numbers, ROWS);
     let columns = size_number(numbers, COLUMNS);
@@ -51,7 +52,7 @@ pub(crate) fn size_in(numbers: &[u32]) -> Size
 }
 
 pub(crate) fn terms_in(numbers: &[u32]) -> Terms
-    ensures { λ r. ⌜ r ≡ termsIn (now (numbers .entry)) ⌝ }
+    ensures { λ r. ⌜ r ≡ termsIn (before numbers) ⌝ }
 {
     let support = number(numbers, SUPPORT);
     let gap = number(numbers, GAP);

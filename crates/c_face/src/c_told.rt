@@ -1,6 +1,7 @@
 // What the check and the preparer tell a C caller, and how words come into a lent answer, which may be of any length.
 ghost use mathlib.Core.Path.{_≡_};
-ghost use Rattle.c_face.specs.Told.{written, told, checkedTold, checkedOf, preparedTold};
+ghost use Rattle.c_face.specs.Told.{written, told, checkedTold, asChecked, preparedTold};
+ghost use Rattle.basics.specs.Lent.{before, after};
 use prepare::Prepared;
 use sheet::Checked;
 
@@ -26,7 +27,7 @@ fn word(x: usize) -> u64
 
 // The words at the start of the answer; one too short for them is left alone.
 pub(crate) fn write(answer: &mut [u64], words: &[u64])
-    ensures { λ _. ⌜ now (answer .exit) ≡ written (now (words .entry)) (now (answer .entry)) ⌝ }
+    ensures { λ _. ⌜ after answer ≡ written (before words) (before answer) ⌝ }
 {
     if answer.len() < words.len() {
         return;
@@ -39,14 +40,14 @@ pub(crate) fn write(answer: &mut [u64], words: &[u64])
 }
 
 fn tell(answer: &mut [u64], kind: u64, reason: u64, place: u64)
-    ensures { λ _. ⌜ now (answer .exit) ≡ told kind reason place (now (answer .entry)) ⌝ }
+    ensures { λ _. ⌜ after answer ≡ told kind reason place (before answer) ⌝ }
 {
     let words: [u64; TOLD_WORDS] = [kind, reason, place];
     write(answer, &words);
 }
 
 pub(crate) fn tell_checked(answer: &mut [u64], checked: Checked)
-    ensures { λ _. ⌜ now (answer .exit) ≡ checkedTold checked (now (answer .entry)) ⌝ }
+    ensures { λ _. ⌜ after answer ≡ checkedTold checked (before answer) ⌝ }
 {
     match checked {
         Checked::Accepted => {
@@ -58,8 +59,8 @@ pub(crate) fn tell_checked(answer: &mut [u64], checked: Checked)
     }
 }
 
-fn checked_of(done: Prepared) -> Checked
-    ensures { λ r. ⌜ r ≡ checkedOf done ⌝ }
+fn as_checked(done: Prepared) -> Checked
+    ensures { λ r. ⌜ r ≡ asChecked done ⌝ }
 {
     match done {
         Prepared::Done => Checked::Accepted,
@@ -68,7 +69,7 @@ fn checked_of(done: Prepared) -> Checked
 }
 
 pub(crate) fn tell_prepared(answer: &mut [u64], done: Prepared)
-    ensures { λ _. ⌜ now (answer .exit) ≡ preparedTold done (now (answer .entry)) ⌝ }
+    ensures { λ _. ⌜ after answer ≡ preparedTold done (before answer) ⌝ }
 {
-    tell_checked(answer, checked_of(done));
+    tell_checked(answer, as_checked(done));
 }

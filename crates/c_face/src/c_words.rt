@@ -2,6 +2,7 @@
 ghost use mathlib.Core.Path.{_≡_};
 ghost use Rattle.c_face.specs.Told.{written};
 ghost use Rattle.c_face.specs.Rule.{sideWords, foundWords, shortWords, searchWords};
+ghost use Rattle.basics.specs.Lent.{before, after};
 use crate::c_told::TURNED_BACK;
 use tree::Answer;
 use tree::Side;
@@ -85,7 +86,7 @@ fn found_words(tree: Tree, tried: u32) -> [u64; SEARCH_WORDS]
     ]
 }
 
-// An answer that says three numbers.
+// A case that says two numbers, and 0 in the sixteen words past them.
 fn short_words(kind: u64, first: u64, second: u64) -> [u64; SEARCH_WORDS]
     ensures { λ r. ⌜ r ≡ shortWords kind first second ⌝ }
 {
@@ -109,7 +110,7 @@ fn search_words(answer: Answer) -> [u64; SEARCH_WORDS]
 }
 
 pub(crate) fn tell_searched(answer: &mut [u64], found: Answer)
-    ensures { λ _. ⌜ now (answer .exit) ≡ written (searchWords found) (now (answer .entry)) ⌝ }
+    ensures { λ _. ⌜ after answer ≡ written (searchWords found) (before answer) ⌝ }
 {
     let words = search_words(found);
     crate::c_told::write(answer, &words);

@@ -4,6 +4,7 @@ mod c_told;
 mod c_words;
 
 ghost use Rattle.c_face.specs.Face.{PrepareCalled, CheckCalled, SearchCalled};
+ghost use Rattle.basics.specs.Lent.{before, after};
 use crate::c_numbers::COLUMNS;
 use crate::c_numbers::ROWS;
 use crate::c_numbers::size_in;
@@ -21,8 +22,8 @@ pub extern "C" fn finder_prepare(
     answer: &mut [u64],
 )
     ensures { λ _. ⌜
-        PrepareCalled (now (numbers .entry)) (now (values .entry)) (now (order .entry)) (now (cuts .entry)) (now (counts .entry)) (now (answer .entry))
-        (now (order .exit)) (now (cuts .exit)) (now (counts .exit)) (now (answer .exit)) ⌝ }
+        PrepareCalled (before numbers) (before values) (before order) (before cuts) (before counts) (before answer)
+        (after order) (after cuts) (after counts) (after answer) ⌝ }
 {
     let rows = size_number(numbers, ROWS);
     let columns = size_number(numbers, COLUMNS);
@@ -43,8 +44,8 @@ pub extern "C" fn finder_check(
     answer: &mut [u64],
 )
     ensures { λ _. ⌜
-        CheckCalled (now (numbers .entry)) (now (values .entry)) (now (codes .entry)) (now (order .entry)) (now (cuts .entry)) (now (counts .entry)) (now (scratch .entry)) (now (answer .entry))
-        (now (scratch .exit)) (now (answer .exit)) ⌝ }
+        CheckCalled (before numbers) (before values) (before codes) (before order) (before cuts) (before counts) (before scratch) (before answer)
+        (after scratch) (after answer) ⌝ }
 {
     let size = size_in(numbers);
     let terms = terms_in(numbers);
@@ -65,8 +66,8 @@ pub extern "C" fn finder_search(
     answer: &mut [u64],
 )
     ensures { λ _. ⌜
-        SearchCalled (now (numbers .entry)) (now (values .entry)) (now (codes .entry)) (now (order .entry)) (now (cuts .entry)) (now (counts .entry)) (now (scratch .entry)) (now (answer .entry))
-        (now (scratch .exit)) (now (answer .exit)) ⌝ }
+        SearchCalled (before numbers) (before values) (before codes) (before order) (before cuts) (before counts) (before scratch) (before answer)
+        (after scratch) (after answer) ⌝ }
 {
     let size = size_in(numbers);
     let terms = terms_in(numbers);

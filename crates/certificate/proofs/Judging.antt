@@ -1,6 +1,6 @@
 -- The judge counts the mistakes that the laws of the scan speak of; what it takes is a proper tree, and it takes a tree that tells what is so.
 -- Assumes nothing.
-use mathlib.Core.Path.{_≡_, refl, sym, ap, ap₂, _∙_}
+use mathlib.Core.Path.{_≡_, sym, ap, ap₂, _∙_}
 use Prim.Native.Nat.{ℕ, _+_, _<_}
 use mathlib.Core.Bool.{Bool}
 use lib.Dec.{leb, nleb→lt}
@@ -13,19 +13,16 @@ use Rattle.sheet.specs.Sheet.{Sheet}
 use Rattle.tree.specs.declared.Side.{Side}
 use Rattle.tree.specs.declared.Side.the-variants.{Leaf, Split}
 use Rattle.tree.specs.declared.Tree.{Tree}
-use Rattle.leaves_score.specs.Column.{other, sizeOf}
-use Rattle.leaves_score.specs.Root.{markOf}
-use Rattle.side_laws.specs.Told.{Told, wrongOf}
+use Rattle.side_laws.specs.Told.{Told}
 use Rattle.side_laws.specs.Opt.{mistakes, Proper}
 use Rattle.side_laws.specs.Root.{rootMistakes}
 use Rattle.side_laws.proofs.Mistakes.{leaf-mistakes, split-mistakes}
 use Rattle.side_laws.proofs.Root.{root-parts}
 use Rattle.judge.specs.declared.judge_rows.Reached.{Reached}
 use Rattle.judge.specs.declared.judge_rows.Wrong.the-variants.{AtLeaf, AtSplit}
-use Rattle.judge.specs.Mistakes.{rowsAt, wrongAt, reachedAt, sideWrong, wrongSum, rootLeftward, rootRightward, judgementOf}
-use Rattle.judge.specs.Passing.{badColumn}
+use Rattle.judge.specs.Mistakes.{reachedAt, sideWrong, wrongSum, rootLeftward, rootRightward, judgementOf}
 use Rattle.judge.specs.declared.Verdict.the-variants.{Judged}
-use Rattle.judge.specs.Judge.{badLeaf, badThreshold, treeChecked}
+use Rattle.judge.specs.Judge.{badLeaf, badThreshold, treeChecked, badColumn}
 use Rattle.judge.proofs.Taking.{Taken, twice-not, not-not}
 use Rattle.judge.proofs.Taking as taking
 use Rattle.certificate.specs.Certificate.{SideDouble, ownErrors}
@@ -35,24 +32,15 @@ use Rattle.certificate.specs.Certificate.{SideDouble, ownErrors}
 -- a side's mistakes, leaf by leaf, add up to those of the laws
 side-sum : (s : Sheet) (mine : ℕ → Bool) (x : Side) → wrongSum (sideWrong s mine x) ≡ mistakes s mine x
 unfolding wrongSum sideWrong reachedAt
-side-sum s mine (Leaf leaf) = unfold wrongAt wrongOf markOf in sym (leaf-mistakes s mine leaf)
-side-sum s mine (Split question left right) = unfold wrongAt wrongOf markOf in sym (split-mistakes s mine question left right)
+side-sum s mine (Leaf leaf) = sym (leaf-mistakes s mine leaf)
+side-sum s mine (Split question left right) = sym (split-mistakes s mine question left right)
 
 -- the tree's mistakes are those of its two sides
 pub tree-sum : (s : Sheet) (t : Tree) → judgementOf s t .mistakes ≡ rootMistakes s (t .question) (t .left) (t .right)
-unfolding judgementOf markOf
+unfolding judgementOf
 tree-sum s t =
     ap₂ (λ (a b : ℕ). a + b) (side-sum s (rootLeftward s t) (t .left)) (side-sum s (rootRightward s t) (t .right))
     ∙ sym (root-parts s (t .question) (t .left) (t .right))
-
--- the rows of its two sides are counted alike
-pub left-rows : (s : Sheet) (t : Tree) → rowsAt s (rootLeftward s t) ≡ sizeOf s (markOf s (t .question))
-unfolding rowsAt sizeOf markOf
-left-rows s t = refl
-
-pub right-rows : (s : Sheet) (t : Tree) → rowsAt s (rootRightward s t) ≡ sizeOf s (other (markOf s (t .question)))
-unfolding rowsAt sizeOf markOf
-right-rows s t = refl
 
 -- ---- a side that the judge takes is one of those that the laws range over
 
@@ -82,7 +70,7 @@ abbrev reach : ℕ → Reached
 reach n = record { wrong = n }
 
 pub told-wrong : (s : Sheet) (support : ℕ) (mine : ℕ → Bool) (x : Side) → Told s support mine x → sideWrong s mine x ≡ ownErrors x
-unfolding sideWrong reachedAt wrongAt wrongOf markOf
+unfolding sideWrong reachedAt
 told-wrong s support mine (Leaf leaf) h = ap (λ (n : ℕ). AtLeaf (reach n)) (sym (h .error-is))
 told-wrong s support mine (Split question left right) h = ap₂ (λ (m n : ℕ). AtSplit (reach m) (reach n)) (sym (h .left-told .error-is)) (sym (h .right-told .error-is))
 

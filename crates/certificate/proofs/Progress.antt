@@ -14,7 +14,7 @@ use Rattle.column_search.specs.Laws.{Lowered}
 use Rattle.column_search.proofs.Error.{lowers}
 use Rattle.column_search.proofs.Optimal.{optimal}
 use Rattle.column_turns.specs.Try.{searchedColumn}
-use Rattle.depth2.specs.Search.{Progress, withColumn, afterColumn, searchColumns, searched}
+use Rattle.depth2.specs.Search.{Progress, withColumn, progressAfterColumn, searchColumns, searched}
 use Rattle.depth2.specs.Laws.{cutError}
 use Rattle.certificate.proofs.Column.{feasible-run, metric, all-feasible}
 
@@ -32,13 +32,13 @@ module _ (s : Sheet) (sound : Sound s) (t : Terms) (c : ℕ) (here : c < s .colu
   run-lowered : (error : ℕ) → firstOf s t c < endOf s t c → Lowered (searchedColumn s t c) (firstOf s t c) (endOf s t c - 1) error (runOf s t c error)
   run-lowered error h = lowers (searchedColumn s t c) (t .bound) (firstOf s t c) (endOf s t c - 1) error (feasible-run s sound t c here h)
 
-  after-falls : (p : Progress) → afterColumn s t c p .error ≤ p .error
-  unfolding afterColumn withColumn
+  after-falls : (p : Progress) → progressAfterColumn s t c p .error ≤ p .error
+  unfolding progressAfterColumn withColumn
   after-falls p =
       by-ltb (λ (q : Progress). q .error ≤ p .error) (firstOf s t c) (endOf s t c) (λ h. run-lowered (p .error) h .falls) (λ h. omega arith)
 
-  after-best : t .support ≤ 1 → (p : Progress) (k : ℕ) → k < countOf s c → min (afterColumn s t c p .error) (t .bound) ≤ cutError s t c k + t .gap
-  unfolding afterColumn withColumn leftError rightError
+  after-best : t .support ≤ 1 → (p : Progress) (k : ℕ) → k < countOf s c → min (progressAfterColumn s t c p .error) (t .bound) ≤ cutError s t c k + t .gap
+  unfolding progressAfterColumn withColumn leftError rightError
   after-best small p k h =
       let f = all-feasible s sound t c here small k h in
       let some : firstOf s t c < endOf s t c = omega (arith, f .0, f .1) in
@@ -51,16 +51,16 @@ module _ (s : Sheet) (sound : Sound s) (t : Terms) where
   unfolding searchColumns
   columns-fall zero c h p = omega arith
   columns-fall (suc n) c h p =
-      let a : afterColumn s t c p .error ≤ p .error = after-falls s sound t c (omega arith) p in
-      by-leb (λ (q : Progress). q .error ≤ p .error) (afterColumn s t c p .error) (t .gap) (λ g. a)
-      (λ g. omega (arith, a, columns-fall n (suc c) (omega arith) (afterColumn s t c p)))
+      let a : progressAfterColumn s t c p .error ≤ p .error = after-falls s sound t c (omega arith) p in
+      by-leb (λ (q : Progress). q .error ≤ p .error) (progressAfterColumn s t c p .error) (t .gap) (λ g. a)
+      (λ g. omega (arith, a, columns-fall n (suc c) (omega arith) (progressAfterColumn s t c p)))
 
   columns-best : t .support ≤ 1 → (n c : ℕ) → c + n ≤ s .columns → (p : Progress) (d k : ℕ) → c ≤ d → d < c + n → k < countOf s d
       → min (searchColumns s t n c p .error) (t .bound) ≤ cutError s t d k + t .gap
   unfolding searchColumns
   columns-best small zero c h p d k l g i = absurd (omega arith)
   columns-best small (suc n) c h p d k l g i =
-      let next : Progress = afterColumn s t c p in
+      let next : Progress = progressAfterColumn s t c p in
       by-leb (λ (q : Progress). min (q .error) (t .bound) ≤ cutError s t d k + t .gap) (next .error) (t .gap)
       (λ e. omega arith)
       (λ e. reach c d l

@@ -13,12 +13,13 @@ use Rattle.sheet.specs.declared.Terms.{Terms}
 use Rattle.sheet.specs.declared.Checked.the-variants.{Accepted}
 use Rattle.sheet.specs.Check.{checkOf}
 use Rattle.sheet.specs.Laws.{Doubles}
+use Rattle.sheet.specs.Rows.{sentLeft}
 use Rattle.sheet.proofs.Accepted.{accepted-sound}
 use Rattle.tree.specs.declared.Tree.{Tree}
 use Rattle.tree.specs.declared.Answer.{Answer}
 use Rattle.tree.specs.Answer.{finalError, ruleOf}
 use Rattle.leaves_score.specs.Column.{other}
-use Rattle.leaves_score.specs.Root.{cutQuestion, markOf, sidesAt}
+use Rattle.leaves_score.specs.Root.{cutQuestion, sidesAt}
 use Rattle.side_laws.specs.Told.{Told}
 use Rattle.side_laws.specs.Root.{rootMistakes}
 use Rattle.side_laws.proofs.Sides.{tells}
@@ -34,7 +35,7 @@ use Rattle.column_turns.proofs.Accepted.{accepted-parts}
 use Rattle.certificate.specs.Certificate.{NothingBetter, NeverWorse, AsItSays, TreeTells, Certified}
 use Rattle.certificate.proofs.Progress.{searched-best}
 use Rattle.judge.proofs.Taking.{Accepts, accepts, same-sheet}
-use Rattle.certificate.proofs.Judging.{proper, tree-sum, left-rows, right-rows, taken, told-wrong}
+use Rattle.certificate.proofs.Judging.{proper, tree-sum, taken, told-wrong}
 
 -- ---- the answer of an accepted call
 
@@ -66,8 +67,7 @@ nothing-better s t words doubles e small tree j any =
     let a : Accepts s tree j = accepts s tree j (any .judged) in
     let r =
     root-least s sound (t .support) small (tree .question) (a .column) (finite-comparable (tree .question .threshold) (a .threshold) (any .double .root))
-    (subst (λ (n : ℕ). 1 ≤ n) (left-rows s tree) (any .left-rows)) (subst (λ (n : ℕ). 1 ≤ n) (right-rows s tree) (any .right-rows))
-    (tree .left) (tree .right) (proper s (tree .left) (a .left) (any .double .left)) (proper s (tree .right) (a .right) (any .double .right)) in
+    (any .left-rows) (any .right-rows) (tree .left) (tree .right) (proper s (tree .left) (a .left) (any .double .left)) (proper s (tree .right) (a .right) (any .double .right)) in
     let m : rootMistakes s (tree .question) (tree .left) (tree .right) ≡ j .mistakes = sym (tree-sum s tree) ∙ ap (λ (x : Judgement). x .mistakes) (a .judgement) in
     final (λ n. min n (t .bound) ≤ j .mistakes + t .gap) s t words e
     (omega (arith, m, r .2, searched-best s sound t small (tree .question .column) (r .0) (a .column) (r .1)))
@@ -81,16 +81,16 @@ never-worse s t words doubles e = final (λ n. n ≤ t .error) s t words e (fall
 
 module _ (s : Sheet) (t : Terms) (words : ℕ) (sound : Sound s) (e : checkOf s t words ≡ Accepted) (c k error : ℕ) (here : c < s .columns) (listed : k < countOf s c)
     (is : error ≡ cutError s t c k) where
-  left-told : Told s (t .support) (markOf s (cutQuestion s c k)) (sidesAt s (t .support) c k .left)
+  left-told : Told s (t .support) (sentLeft s (cutQuestion s c k)) (sidesAt s (t .support) c k .left)
   unfolding sidesAt
-  left-told = tells s sound (t .support) (markOf s (cutQuestion s c k)) .left
+  left-told = tells s sound (t .support) (sentLeft s (cutQuestion s c k)) .left
 
-  right-told : Told s (t .support) (other (markOf s (cutQuestion s c k))) (sidesAt s (t .support) c k .right)
+  right-told : Told s (t .support) (other (sentLeft s (cutQuestion s c k))) (sidesAt s (t .support) c k .right)
   unfolding sidesAt
-  right-told = tells s sound (t .support) (markOf s (cutQuestion s c k)) .right
+  right-told = tells s sound (t .support) (sentLeft s (cutQuestion s c k)) .right
 
   cut-tells : AsItSays s (treeAt s (t .support) c k error)
-  unfolding treeAt markOf judgementOf
+  unfolding treeAt judgementOf
   cut-tells =
       let tree : Tree = treeAt s (t .support) c k error in
       record {

@@ -1,5 +1,5 @@
--- What whoever signs relies on, of any inputs that the search accepts, as statements; `proofs/` proves each. The final error is the error in the
--- answer, Kept or Found. `Doubles` says that the sheet's values are f64, as those of every slice are.
+-- For a signer. What whoever signs relies on, of any inputs that the search accepts, as statements; `proofs/` proves each. The final error is
+-- the error in the answer, Kept or Found. `Doubles` says that the sheet's values are f64, as those of every slice are.
 use mathlib.Core.Path.{_≡_}
 use Prim.Native.Nat.{ℕ, _+_, _≤_, _<_, min}
 use lib.Dec.{T}
@@ -10,6 +10,7 @@ use Rattle.sheet.specs.declared.Terms.{Terms}
 use Rattle.sheet.specs.declared.Checked.the-variants.{Accepted}
 use Rattle.sheet.specs.Check.{checkOf}
 use Rattle.sheet.specs.Laws.{Doubles}
+use Rattle.sheet.specs.Rows.{rowsAt}
 use Rattle.tree.specs.declared.Leaf as leaf
 use Rattle.tree.specs.declared.Side.{Side}
 use Rattle.tree.specs.declared.Side.the-variants.{Leaf, Split}
@@ -21,7 +22,7 @@ use Rattle.judge.specs.declared.judge_rows.Wrong.{Wrong}
 use Rattle.judge.specs.declared.judge_rows.Wrong.the-variants.{AtLeaf, AtSplit}
 use Rattle.judge.specs.declared.judge_rows.Judgement.{Judgement}
 use Rattle.judge.specs.declared.Verdict.the-variants.{Judged}
-use Rattle.judge.specs.Mistakes.{rowsAt, rootLeftward, rootRightward}
+use Rattle.judge.specs.Mistakes.{rootLeftward, rootRightward}
 use Rattle.judge.specs.Judge.{judgeOf}
 use Rattle.depth2.specs.Search.{searchOf}
 

@@ -1,4 +1,4 @@
--- What a call of the certified search promises: all that the search does, and the three sentences of its answer.
+-- For a signer. What a call of the certified search promises: all that the search does, and the three sentences of its answer.
 use Prim.Native.Nat.{ℕ}
 use mathlib.Core.List.{List}
 use lib.ListN.{length}

@@ -3,6 +3,7 @@ use sheet::Size;
 use sheet::Terms;
 use tree::Answer;
 ghost use Rattle.certificate.specs.Promise.{SignedOf};
+ghost use Rattle.basics.specs.Lent.{before, after};
 
 // The search of a sheet. Its answer is the definition's, nothing better was passed over, it is never worse than the start, and a rule that
 // it names makes just the mistakes that it says.
@@ -16,7 +17,7 @@ pub fn certified_search(
     counts: &[u16],
     scratch: &mut [u32],
 ) -> Answer
-    ensures { λ r. ⌜ SignedOf size terms (now (values .entry)) (now (codes .entry)) (now (order .entry)) (now (cuts .entry)) (now (counts .entry)) (now (scratch .entry)) r (now (scratch .exit)) ⌝ }
+    ensures { λ r. ⌜ SignedOf size terms (before values) (before codes) (before order) (before cuts) (before counts) (before scratch) r (after scratch) ⌝ }
 {
     depth2::search(size, terms, values, codes, order, cuts, counts, scratch)
 }

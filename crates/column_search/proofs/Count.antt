@@ -1,4 +1,4 @@
--- The queue only loses: what a measure finds in an interval, the parts after a try and a shrunk interval hold no more of. So no cut lies in two
+-- The queue only loses: what a measure finds in an interval, the parts stateAfter a try and a shrunk interval hold no more of. So no cut lies in two
 -- intervals, at most f wait, and with weights 2k − 1, of which a try takes 1, at most 2f − 1 cuts are tried and the queue runs empty.
 -- Assumes nothing.
 use mathlib.Core.Path.{_≡_, refl, sym, ap, _∙_}
@@ -16,7 +16,7 @@ use Rattle.interval_pruner.specs.declared.Bound.{Bound}
 use Rattle.interval_pruner.specs.declared.Zeros.{Zeros}
 use Rattle.interval_pruner.specs.Column.{Column, placeIn, errorOf}
 use Rattle.column_search.specs.Search.{State, limit, zerosOf, middle, upperPart, lowerPart, queued, tryCut, dropped, turnOn, turn, turns, start, columnRun}
-use Rattle.column_search.specs.Laws.{Inside, Feasible, RunOf, Disjoint, Waits, Tries, Ends, holds, count, after}
+use Rattle.column_search.specs.Laws.{Inside, Feasible, RunOf, Disjoint, Waits, Tries, Ends, holds, count, stateAfter}
 use Rattle.column_search.specs.Loop.{Waiting, Kept, Running, Loops, size, weight, finish}
 use Rattle.column_search.proofs.Steps.{parts-total, try-total, turn-case}
 use Rattle.column_search.proofs.Kept.{middle-placed, kept-turn, kept-start, kept-after, counts}
@@ -145,7 +145,7 @@ length-size (i ∷ q) = omega (arith, length-size q)
 
 pub disjoint : Disjoint
 disjoint c bound first last error n fair =
-    let s : State = after c bound first last error n in
+    let s : State = stateAfter c bound first last error n in
     record {
       runs = all-map (Waiting c first last (limit bound (s .error)) (s .tried)) (RunOf first last) (λ i w. w .run) (s .queue)
           (kept-after c bound first last error n fair .queue);
@@ -159,7 +159,7 @@ disjoint c bound first last error n fair =
 
 pub waits : Waits
 waits c bound first last error n fair =
-    let s : State = after c bound first last error n in
+    let s : State = stateAfter c bound first last error n in
     omega (
       arith,
       fair .full,
@@ -169,7 +169,7 @@ waits c bound first last error n fair =
 
 pub tries : Tries
 tries c bound first last error n fair =
-    let s : State = after c bound first last error n in
+    let s : State = stateAfter c bound first last error n in
     omega (
       arith,
       fair .full,

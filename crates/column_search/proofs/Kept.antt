@@ -12,7 +12,7 @@ use Rattle.interval_pruner.specs.declared.Bound.{Bound}
 use Rattle.interval_pruner.specs.declared.Zeros.{Zeros}
 use Rattle.interval_pruner.specs.Column.{Column, placeIn, errorOf}
 use Rattle.column_search.specs.Search.{State, limit, zerosOf, middle, queued, tryCut, dropped, turnOn, turn, turns, start}
-use Rattle.column_search.specs.Laws.{Inside, Feasible, RunOf, Among, IfCut, Remembers, TriesFeasible, TriesCounted, after}
+use Rattle.column_search.specs.Laws.{Inside, Feasible, RunOf, Among, IfCut, Remembers, TriesFeasible, TriesCounted, stateAfter}
 use Rattle.column_search.specs.Loop.{Seen, Waiting, Kept}
 use Rattle.column_search.proofs.Steps.{parts-all, try-all, turn-case}
 
@@ -109,13 +109,13 @@ module _ (c : Column) (bound first last : ℕ) (fair : Feasible c first last) wh
 
 -- ---- the statements
 
-pub kept-after : (c : Column) (bound first last error n : ℕ) → Feasible c first last → Kept c bound first last (after c bound first last error n)
+pub kept-after : (c : Column) (bound first last error n : ℕ) → Feasible c first last → Kept c bound first last (stateAfter c bound first last error n)
 kept-after c bound first last error n fair =
     kept-turns c bound first last fair n (start first last error) (kept-start c bound first last fair error)
 
 pub remembers : Remembers
 remembers c bound first last error n fair =
-    let s : State = after c bound first last error n in
+    let s : State = stateAfter c bound first last error n in
     let b : ℕ = limit bound (s .error) in
     all-map (Waiting c first last b (s .tried)) (λ i. IfCut (λ k. Among k (s .tried)) (i .left) × IfCut (λ k. Among k (s .tried)) (i .right))
     (λ i w. (
@@ -126,7 +126,7 @@ remembers c bound first last error n fair =
 
 pub tries-feasible : TriesFeasible
 tries-feasible c bound first last error n fair =
-    let s : State = after c bound first last error n in
+    let s : State = stateAfter c bound first last error n in
     all-map (Seen c first last (limit bound (s .error)) (s .tried)) (λ k. (first ≤ k) × (k ≤ last)) (λ k g. (g .from, g .till))
     (s .tried) (kept-after c bound first last error n fair .tried)
 

@@ -1,15 +1,16 @@
 -- The marks are what their names say: one more tried cut either is no such cut, or the higher (lower) of it and the old mark is the new one.
 -- Assumes nothing.
 use mathlib.Core.Path.{_≡_, refl, subst}
-use Prim.Native.Nat.{ℕ, _≤_, _<_, min, max}
+use Prim.Native.Nat.{ℕ, _≤_, min, max}
 use native.Mathlib.Omega.{arith}
 use mathlib.Core.List.{List, [], _∷_}
 use lib.Dec.{eqb, eqb→eq}
 use Rattle.basics.specs.Lists.{All, here, there}
-use Rattle.basics.proofs.Choice.{by-test, order, neqb}
+use Rattle.basics.proofs.Choice.{by-test, neqb}
 use Rattle.interval_pruner.specs.declared.Tried.{Tried}
 use Rattle.interval_pruner.specs.declared.Tried.the-variants.{Nothing, Cut}
 use Rattle.interval_pruner.specs.Column.{leftError, rightError}
+use Rattle.interval_pruner.proofs.Results.{max-either, min-either}
 use Rattle.interval_pruner.specs.Pruner.{highestZero, lowestZero, zerosAfter}
 use Rattle.column_search.specs.Search.{zerosOf}
 use Rattle.column_search.specs.Laws.{Among, IfCut, Extreme, Marks}
@@ -21,24 +22,6 @@ none-among k = elim [ ]
 pub all-among : (P : ℕ → Type 0) (k : ℕ) (tried : List ℕ) → All P tried → Among k tried → P k
 all-among P k (t ∷ tried) h (here e) = subst P e (h .0)
 all-among P k (t ∷ tried) h (there a) = all-among P k tried (h .1) a
-
-pub max-either : (P : ℕ → Type 0) (a b : ℕ) → P a → P b → P (max a b)
-max-either P a b h g = order a b (λ l. rw (right a b l) g) (λ l. rw (left a b l) h)
-  where
-    right : (a b : ℕ) → a ≤ b → max a b ≡ b
-    right a b h = omega arith
-
-    left : (a b : ℕ) → b < a → max a b ≡ a
-    left a b h = omega arith
-
-pub min-either : (P : ℕ → Type 0) (a b : ℕ) → P a → P b → P (min a b)
-min-either P a b h g = order a b (λ l. rw (left a b l) h) (λ l. rw (right a b l) g)
-  where
-    left : (a b : ℕ) → a ≤ b → min a b ≡ a
-    left a b h = omega arith
-
-    right : (a b : ℕ) → b < a → min a b ≡ b
-    right a b h = omega arith
 
 module _ (P : ℕ → Type 0) (below : ℕ → ℕ → Type 0) (k : ℕ) (tried : List ℕ) where
   -- a cut that is not such changes nothing

@@ -18,7 +18,7 @@ use Rattle.interval_pruner.specs.declared.Bound.{Bound}
 use Rattle.interval_pruner.specs.declared.Shrunk.{Shrunk}
 use Rattle.interval_pruner.specs.declared.Shrunk.the-variants.{Dropped, To}
 use Rattle.interval_pruner.specs.Column.{Column, placeIn, leftError, rightError, errorOf}
-use Rattle.interval_pruner.specs.Pruner.{past, short, sumOf, heldLeft, heldRight, hopeless, startAfter, intervalWithin, endAbove, endBefore, shrunkOf, upperFrom, lowerNear, lowerTo, partsOf}
+use Rattle.interval_pruner.specs.Pruner.{past, short, sumOf, heldError, hopeless, startAfter, intervalWithin, endAbove, endBefore, shrunkOf, upperFrom, lowerNear, lowerTo, partsOf}
 use Rattle.interval_pruner.proofs.Shrinking.{start-low}
 use Rattle.column_search.specs.Search.{State, limit, zerosOf, middle, part, upperPart, lowerPart, queued, tryCut, dropped, turnOn, turn, turns, start, columnRun}
 use Rattle.column_search.specs.Laws.{Inside, Feasible, RunOf, IfCut, Metric, NothingLost, count}
@@ -42,20 +42,20 @@ module _ (c : Column) (bound first last : ℕ) (fair : Feasible c first last) (m
   module _ (b k : ℕ) (from : first ≤ k) (till : k ≤ last) (worth : errorOf c k + c .gap < b) (tried : List ℕ) where
     -- ---- step 1
 
-    left-held : (i : Bound) (o : Tried) → IfCut (λ l. (l < i .first) × Seen c first last b tried l) o → i .first ≤ k → heldLeft c o ≤ leftError c k
-    unfolding heldLeft
+    left-held : (i : Bound) (o : Tried) → IfCut (λ l. (l < i .first) × Seen c first last b tried l) o → i .first ≤ k → heldError (leftError c) o ≤ leftError c k
+    unfolding heldError
     left-held i Nothing g h = omega arith
     left-held i (Cut l) g h = met .lefts l k (g .1 .from) (omega arith) till
 
-    right-held : (i : Bound) (o : Tried) → IfCut (λ r. (i .last ≤ r) × Seen c first last b tried r) o → k ≤ i .last → heldRight c o ≤ rightError c k
-    unfolding heldRight
+    right-held : (i : Bound) (o : Tried) → IfCut (λ r. (i .last ≤ r) × Seen c first last b tried r) o → k ≤ i .last → heldError (rightError c) o ≤ rightError c k
+    unfolding heldError
     right-held i Nothing g h = omega arith
     right-held i (Cut r) g h = met .rights k r from (omega arith) (g .1 .till)
 
     no-hope : (i : Bound) → Waiting c first last b tried i → Has k i → T (hopeless c b i) → ⊥
     unfolding hopeless
     no-hope i w h t =
-        let sum : ℕ = heldLeft c (i .left) + heldRight c (i .right) + c .gap in
+        let sum : ℕ = heldError (leftError c) (i .left) + heldError (rightError c) (i .right) + c .gap in
         omega (
           arith,
           left-held i (i .left) (w .left) (h .0),

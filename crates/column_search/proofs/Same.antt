@@ -18,9 +18,9 @@ use Rattle.interval_pruner.specs.declared.Shrunk.the-variants.{Dropped, To}
 use Rattle.interval_pruner.specs.declared.Zeros.{Zeros}
 use Rattle.interval_pruner.specs.declared.Parts.{Parts}
 use Rattle.interval_pruner.specs.Column.{Column, placeIn, leftError, rightError, errorOf}
-use Rattle.interval_pruner.specs.Pruner.{zerosAfter, past, short, sumOf, heldLeft, heldRight, hopeless, startAfter, intervalWithin, endAbove, endBefore, shrunkOf, upperFrom, lowerNear, lowerTo, partsOf}
+use Rattle.interval_pruner.specs.Pruner.{zerosAfter, past, short, sumOf, heldError, hopeless, startAfter, intervalWithin, endAbove, endBefore, shrunkOf, upperFrom, lowerNear, lowerTo, partsOf}
 use Rattle.column_search.specs.Search.{State, limit, zerosOf, middle, part, upperPart, lowerPart, queued, tryCut, dropped, afterShrink, turnOn, turn, turns, start, columnRun}
-use Rattle.column_search.specs.Laws.{Inside, IfTo, Feasible, RunOf, IfCut, over, Agree, SameRun, count, after}
+use Rattle.column_search.specs.Laws.{Inside, IfTo, Feasible, RunOf, IfCut, over, Agree, SameRun, count, stateAfter}
 use Rattle.column_search.specs.Loop.{Seen, Waiting, Kept, SameHope, SameShrunk, SameZeros, SameParts, SameTry, SameTurn, Recalls}
 use Rattle.column_search.proofs.Steps.{shrunk-in, shrunkIn}
 use Rattle.column_search.proofs.Kept.{cut-map, kept-turn, kept-start}
@@ -40,15 +40,10 @@ module _ (c : Column) (errors : ℕ → ℕ × ℕ) where
 
   -- ---- steps 1 and 2
 
-  heldLeft-same : (o : Tried) → IfCut (Agree c errors) o → heldLeft c o ≡ heldLeft (over c errors) o
-  unfolding heldLeft
-  heldLeft-same Nothing h = refl
-  heldLeft-same (Cut k) h = left-same k h
-
-  heldRight-same : (o : Tried) → IfCut (Agree c errors) o → heldRight c o ≡ heldRight (over c errors) o
-  unfolding heldRight
-  heldRight-same Nothing h = refl
-  heldRight-same (Cut k) h = right-same k h
+  held-same : {f g : ℕ → ℕ} → ((k : ℕ) → Agree c errors k → f k ≡ g k) → (o : Tried) → IfCut (Agree c errors) o → heldError f o ≡ heldError g o
+  unfolding heldError
+  held-same e Nothing h = refl
+  held-same e (Cut k) h = e k h
 
   startAfter-same : (b : ℕ) (o : Tried) (first : ℕ) → IfCut (Agree c errors) o → startAfter c b o first ≡ startAfter (over c errors) b o first
   unfolding startAfter
@@ -72,7 +67,8 @@ module _ (c : Column) (errors : ℕ → ℕ × ℕ) where
 
 pub same-hope : SameHope
 unfolding hopeless
-same-hope c errors b i l r = λ t. c .small && leb b (heldLeft-same c errors (i .left) l t + heldRight-same c errors (i .right) r t + c .gap)
+same-hope c errors b i l r =
+    λ t. c .small && leb b (held-same c errors (left-same c errors) (i .left) l t + held-same c errors (right-same c errors) (i .right) r t + c .gap)
 
 pub same-shrunk : SameShrunk
 unfolding shrunkOf
@@ -171,6 +167,6 @@ same-turn c errors bound first last s h agree = turnOn-same c errors bound first
 pub same-run : SameRun
 unfolding columnRun
 same-run c errors bound first last error fair agree =
-    let same : (n : ℕ) → after c bound first last error n ≡ after (over c errors) bound first last error n =
+    let same : (n : ℕ) → stateAfter c bound first last error n ≡ stateAfter (over c errors) bound first last error n =
     λ n. turns-same c errors bound first last agree fair n (start first last error) (kept-start c bound first last fair error) in
     (same (2 * count first last), same)

@@ -1,4 +1,4 @@
--- What holds of the search of one column, for every evaluator, as statements; `proofs/` proves each.
+-- For a signer. What holds of the search of one column, for every evaluator, as statements; `proofs/` proves each.
 use mathlib.Core.Path.{_≡_}
 use Prim.Native.Nat.{ℕ, suc, _+_, _-_, _*_, _≤_, _<_, min}
 use mathlib.Core.Bool.{Bool, _&&_}
@@ -30,9 +30,9 @@ pub record Feasible (c : Column) (first last : ℕ) : Type 0 where
 abbrev pub count : ℕ → ℕ → ℕ
 count first last = suc last - first
 
--- the state after n intervals
-abbrev pub after : Column → (bound first last error n : ℕ) → State
-after c bound first last error n = turns c bound n (start first last error)
+-- the state stateAfter n intervals
+abbrev pub stateAfter : Column → (bound first last error n : ℕ) → State
+stateAfter c bound first last error n = turns c bound n (start first last error)
 
 -- ---- the steps
 
@@ -77,19 +77,19 @@ pub record Apart (first last : ℕ) (queue : List Bound) : Type 0 where
 
 abbrev pub Disjoint : Type 0
 Disjoint =
-    (c : Column) (bound first last error n : ℕ) → Feasible c first last → Apart first last (after c bound first last error n .queue)
+    (c : Column) (bound first last error n : ℕ) → Feasible c first last → Apart first last (stateAfter c bound first last error n .queue)
 
 -- "With f feasible cuts, f ≥ 1, at most f intervals wait in the queue at one time"
 abbrev pub Waits : Type 0
 Waits =
     (c : Column) (bound first last error n : ℕ) → Feasible c first last
-    → length (after c bound first last error n .queue) ≤ count first last
+    → length (stateAfter c bound first last error n .queue) ≤ count first last
 
 -- "and at most 2f−1 tries are made."
 abbrev pub Tries : Type 0
 Tries =
     (c : Column) (bound first last error n : ℕ) → Feasible c first last
-    → triesOf (after c bound first last error n) ≤ 2 * count first last - 1
+    → triesOf (stateAfter c bound first last error n) ≤ 2 * count first last - 1
 
 -- ---- the end
 
@@ -98,7 +98,7 @@ abbrev pub Ends : Type 0
 Ends =
     (c : Column) (bound first last error : ℕ) → Feasible c first last
     → (columnRun c bound first last error .queue ≡ [])
-    × ((n : ℕ) → 2 * count first last - 1 ≤ n → after c bound first last error n ≡ columnRun c bound first last error)
+    × ((n : ℕ) → 2 * count first last - 1 ≤ n → stateAfter c bound first last error n ≡ columnRun c bound first last error)
 
 -- ---- what was tried
 
@@ -112,7 +112,7 @@ TriesCounted =
 abbrev pub TriesFeasible : Type 0
 TriesFeasible =
     (c : Column) (bound first last error n : ℕ) → Feasible c first last
-    → All (λ k. (first ≤ k) × (k ≤ last)) (after c bound first last error n .tried)
+    → All (λ k. (first ≤ k) × (k ≤ last)) (stateAfter c bound first last error n .tried)
 
 -- cut number k is among those tried
 abbrev pub Among : ℕ → List ℕ → Type 0
@@ -127,7 +127,7 @@ IfCut P (Cut k) = P k
 abbrev pub Remembers : Type 0
 Remembers =
     (c : Column) (bound first last error n : ℕ) → Feasible c first last
-    → let s : State = after c bound first last error n in
+    → let s : State = stateAfter c bound first last error n in
     All (λ i. IfCut (λ k. Among k (s .tried)) (i .left) × IfCut (λ k. Among k (s .tried)) (i .right)) (s .queue)
 
 -- A tried cut that is such, and of all such the extreme one by the order; none if no tried cut is such.
@@ -187,4 +187,4 @@ SameRun =
     (c : Column) (errors : ℕ → ℕ × ℕ) (bound first last error : ℕ) → Feasible c first last
     → ((k : ℕ) → first ≤ k → k ≤ last → Agree c errors k)
     → (columnRun c bound first last error ≡ columnRun (over c errors) bound first last error)
-    × ((n : ℕ) → after c bound first last error n ≡ after (over c errors) bound first last error n)
+    × ((n : ℕ) → stateAfter c bound first last error n ≡ stateAfter (over c errors) bound first last error n)

@@ -1,4 +1,4 @@
--- What a loop that takes one interval after another may keep and use, as statements; `proofs/` proves each.
+-- For proofs only. What a loop that takes one interval after another may keep and use, as statements; `proofs/` proves each.
 use mathlib.Core.Path.{_≡_}
 use Prim.Native.Nat.{ℕ, suc, _+_, _-_, _*_, _≤_, _<_}
 use mathlib.Core.List.{List, []}

@@ -1,5 +1,5 @@
--- The search of one column (document 01, "Search"), over the cuts' places and an evaluator that says, of each cut number, the left and the
--- right error that a try of it finds. Definitions only.
+-- For a signer. The search of one column (document 01, "Search"), over the cuts' places and an evaluator that says, of each cut number, the
+-- left and the right error that a try of it finds. Definitions only.
 use Prim.Native.Nat.{ℕ, zero, suc, _+_, _-_, _*_, _/_, min}
 use mathlib.Core.Bool.{_&&_}
 use mathlib.Core.Option.{Option, none, some}

@@ -19,8 +19,8 @@ use Rattle.sheet.specs.Check.{sizeHolds, lengthsHold, scratchHolds, termsHold, 
 use Rattle.sheet.specs.Laws.{Doubles}
 use Rattle.sheet.proofs.Answer.{measured-lists}
 use Rattle.sheet.proofs.Accepted.{accepted-sound}
-use Rattle.column_turns.specs.Lent.{restOf, Enough, Became}
-use Rattle.column_turns.specs.Ready.{Whole}
+use Rattle.column_turns.specs.Lent.{restOf, Enough, RestKept}
+use Rattle.column_turns.specs.Promise.{Whole}
 
 -- a condition of the whole call passed, and so did the rest
 passes : (number : ℕ) (holds : Bool) (rest : Checked) → whole number holds rest ≡ Accepted → T holds × (rest ≡ Accepted)
@@ -65,10 +65,10 @@ module _ (s : Sheet) (t : Terms) (xs ys : List ℕ) (checked : Checked) (is : ch
       let l : length ys ≡ length xs = ap length (after-check checked (s .rows) xs ys lent accepted) ∙ cleared-length (wordsPerRow * s .rows) xs (e .words) in
       record { some = e .some; few = e .few; words = omega (arith, e .words) }
 
-  pub cleared-again : (zs table ring : List ℕ) → Became (s .rows) ys zs table ring → cleared (wordsPerRow * s .rows) zs ≡ scratchAfter (checkOf s t (length xs)) (s .rows) xs
+  pub cleared-again : (zs : List ℕ) → RestKept (s .rows) ys zs → cleared (wordsPerRow * s .rows) zs ≡ scratchAfter (checkOf s t (length xs)) (s .rows) xs
   unfolding restOf scratchAfter
-  cleared-again zs table ring b =
+  cleared-again zs k =
       let w : ℕ = wordsPerRow * s .rows in
       ap (λ (l : List ℕ). replicate w 0 ++ l)
-      (b .rest ∙ ap (drop w) (after-check checked (s .rows) xs ys lent accepted) ∙ cleared-rest w xs)
+      (k .rest ∙ ap (drop w) (after-check checked (s .rows) xs ys lent accepted) ∙ cleared-rest w xs)
       ∙ ap (λ (z : Checked). scratchAfter z (s .rows) xs) (sym (sym is ∙ accepted))

@@ -12,7 +12,8 @@ use Rattle.interval_pruner.specs.declared.Bound.{Bound}
 use Rattle.interval_pruner.specs.Pruner.{recordedAfter}
 use Rattle.interval_queue.specs.declared.Queue.{Queue}
 use Rattle.interval_queue.specs.Ring.{stored, pushedWords, full}
-use Rattle.column_turns.specs.Lent.{ringAt, marksAt, spareAt, tableOf, ringOf, marksOf, restOf, Enough, Became}
+use Rattle.column_turns.specs.Lent.{ringAt, marksAt, spareAt, tableOf, ringOf, marksOf, restOf, Enough, RestKept}
+use Rattle.column_turns.specs.Ready.{Became}
 
 -- ---- windows of a list
 
@@ -63,8 +64,7 @@ module _ (rows : ℕ) (xs ys : List ℕ) (enough : Enough rows xs) where
       let fits : 0 + k ≤ length xs = omega (arith, enough .words) in
       let size : length ys ≡ k = e ∙ length-take-le k xs (omega (arith, enough .words)) in
       record {
-        size = put-size 0 k xs ys fits size;
-        rest = put-past 0 k xs ys fits size (wordsPerRow * rows) (omega arith);
+        kept = record { size = put-size 0 k xs ys fits size; rest = put-past 0 k xs ys fits size (wordsPerRow * rows) (omega arith) };
         table-is = put-there 0 k xs ys fits size;
         ring-is = ap (take (marksAt * rows - ringAt * rows)) (put-past 0 k xs ys fits size (ringAt * rows) (omega arith));
       }
@@ -78,8 +78,7 @@ module _ (rows : ℕ) (xs ys : List ℕ) (enough : Enough rows xs) where
       let fits : a + k ≤ length xs = omega (arith, enough .words) in
       let size : length ys ≡ k = e ∙ length-take-le k (drop a xs) (simp length-drop (omega (arith, enough .words))) in
       record {
-        size = put-size a k xs ys fits size;
-        rest = put-past a k xs ys fits size (wordsPerRow * rows) (omega arith);
+        kept = record { size = put-size a k xs ys fits size; rest = put-past a k xs ys fits size (wordsPerRow * rows) (omega arith) };
         table-is = put-before a k xs ys fits size 0 (ringAt * rows) (omega arith);
         ring-is = put-there a k xs ys fits size;
       }
@@ -93,8 +92,7 @@ module _ (rows : ℕ) (xs ys : List ℕ) (enough : Enough rows xs) where
       let fits : a + k ≤ length xs = omega (arith, enough .words) in
       let size : length ys ≡ k = e ∙ length-take-le k (drop a xs) (simp length-drop (omega (arith, enough .words))) in
       record {
-        size = put-size a k xs ys fits size;
-        rest = put-past a k xs ys fits size (wordsPerRow * rows) (omega arith);
+        kept = record { size = put-size a k xs ys fits size; rest = put-past a k xs ys fits size (wordsPerRow * rows) (omega arith) };
         table-is = put-before a k xs ys fits size 0 (ringAt * rows) (omega arith);
         ring-is = put-before a k xs ys fits size (ringAt * rows) (marksAt * rows - ringAt * rows) (omega arith);
       }
@@ -144,11 +142,12 @@ pub pushed-length : (words : List ℕ) (q : Queue) (i : Bound) → length (pushe
 unfolding pushedWords stored
 pushed-length words q i = by-test (λ (l : List ℕ). length l ≡ length words) (full words q) (λ _. refl) (λ _. simp length-set)
 
-pub became-enough : (rows : ℕ) (was scratch table ring : List ℕ) → Enough rows was → Became rows was scratch table ring → Enough rows scratch
-became-enough rows was scratch table ring e b = record { some = e .some; few = e .few; words = omega (arith, e .words, b .size) }
+pub kept-enough : (rows : ℕ) (was scratch : List ℕ) → Enough rows was → RestKept rows was scratch → Enough rows scratch
+kept-enough rows was scratch e k = record { some = e .some; few = e .few; words = omega (arith, e .words, k .size) }
 
--- one change after another
-pub became-then : (rows : ℕ) (was scratch later table ring table2 ring2 : List ℕ) → Became rows was scratch table ring
-    → Became rows scratch later table2 ring2 → Became rows was later table2 ring2
-became-then rows was scratch later table ring table2 ring2 b d =
-    record { size = d .size ∙ b .size; rest = d .rest ∙ b .rest; table-is = d .table-is; ring-is = d .ring-is }
+-- one change after another, and none
+pub kept-then : (rows : ℕ) (was scratch later : List ℕ) → RestKept rows was scratch → RestKept rows scratch later → RestKept rows was later
+kept-then rows was scratch later a b = record { size = b .size ∙ a .size; rest = b .rest ∙ a .rest }
+
+pub kept-same : (rows : ℕ) (words : List ℕ) → RestKept rows words words
+kept-same rows words = record { size = refl; rest = refl }

@@ -12,7 +12,8 @@ use Rattle.sheet.specs.declared.Size.{Size}
 use Rattle.sheet.specs.Sheet.{Sheet, countOf, placeOf, placesOf}
 use Rattle.sheet.specs.Check.{sheetOf}
 use Rattle.cuts.specs.Lookups.{place, Ascending}
-use Rattle.column_turns.specs.Ready.{Whole, PlacedIn}
+use Rattle.column_turns.specs.Ready.{PlacedIn}
+use Rattle.column_turns.specs.Promise.{Whole}
 use Rattle.sheet.proofs.Index.{column-in}
 
 -- a part of a list, entry by entry

@@ -24,9 +24,10 @@ use Rattle.interval_queue.proofs.Waiting.{push-appends}
 use Rattle.column_search.specs.Search.{part, upperPart, lowerPart}
 use Rattle.column_search.specs.Laws.{IfCut}
 use Rattle.column_search.proofs.Steps.{sides}
-use Rattle.column_turns.specs.Lent.{tableOf, ringOf, Enough, Became}
+use Rattle.column_turns.specs.Lent.{tableOf, ringOf, Enough}
+use Rattle.column_turns.specs.Ready.{Became}
 use Rattle.column_turns.specs.Parts.{Pushing, Queued, PartsWaiting, partsQueued}
-use Rattle.column_turns.proofs.Lent.{ring-length, became-enough}
+use Rattle.column_turns.proofs.Lent.{ring-length, kept-enough, kept-then, kept-same}
 
 -- as many slots as rows
 pub ring-slots : (rows : ℕ) (xs : List ℕ) → Enough rows xs → slotsOf (ringOf rows xs) ≡ rows
@@ -46,31 +47,30 @@ pushed-waiting words q = by-test (λ (z : Queue). z .waiting ≤ q .waiting + 1)
 
 module _ (rows : ℕ) (xs : List ℕ) (q : Queue) (i : Bound) (pushing : Pushing rows xs q i) where
   pub part-pushed : (ys : List ℕ) (r : Queue) → i .first ≤ i .last → r ≡ pushed (ringOf rows xs) q
-      → Became rows xs ys (tableOf rows xs) (pushedWords (ringOf rows xs) q i)
-      → Queued rows xs ys q r (part i) × Became rows xs ys (tableOf rows xs) (ringOf rows ys)
+      → Became rows xs ys (tableOf rows xs) (pushedWords (ringOf rows xs) q i) → Queued rows xs ys q r (part i)
   part-pushed ys r h e b =
       let law = push-appends (ringOf rows xs) q i (pushing .sane) (omega (arith, pushing .room, ring-slots rows xs (pushing .enough))) (pushing .small h) in
       let sane : Sane (ringOf rows ys) r =
-      subst (λ (z : Queue). Sane (ringOf rows ys) z) (sym e) (subst (λ (w : List ℕ). Sane w (pushed (ringOf rows xs) q)) (sym (b .ring-is)) (law .1)) in (
-        record {
-          contents-are = (λ t. contents (b .ring-is t) (e t)) ∙ law .0 ∙ ap (λ (l : List Bound). contents (ringOf rows xs) q ++ l) (sym (part-full i h));
-          sane = sane;
-          waiting = omega (arith, ap (λ (z : Queue). z .waiting) e, pushed-waiting (ringOf rows xs) q, ap length (part-full i h));
-        },
-        record { size = b .size; rest = b .rest; table-is = b .table-is; ring-is = refl },
-      )
+      subst (λ (z : Queue). Sane (ringOf rows ys) z) (sym e) (subst (λ (w : List ℕ). Sane w (pushed (ringOf rows xs) q)) (sym (b .ring-is)) (law .1)) in
+      record {
+        contents-are = (λ t. contents (b .ring-is t) (e t)) ∙ law .0 ∙ ap (λ (l : List Bound). contents (ringOf rows xs) q ++ l) (sym (part-full i h));
+        sane = sane;
+        waiting = omega (arith, ap (λ (z : Queue). z .waiting) e, pushed-waiting (ringOf rows xs) q, ap length (part-full i h));
+        table-is = b .table-is;
+        kept = b .kept;
+      }
 
 -- nothing was queued, and nothing written
 pub none-queued : (rows : ℕ) (xs : List ℕ) (q : Queue) (more : List Bound) → Sane (ringOf rows xs) q → more ≡ []
-    → Queued rows xs xs q q more × Became rows xs xs (tableOf rows xs) (ringOf rows xs)
-none-queued rows xs q more sane e = (
-  record {
-    contents-are = sym (append-nil (contents (ringOf rows xs) q)) ∙ ap (λ (l : List Bound). contents (ringOf rows xs) q ++ l) (sym e);
-    sane = sane;
-    waiting = omega arith;
-  },
-  record { size = refl; rest = refl; table-is = refl; ring-is = refl },
-)
+    → Queued rows xs xs q q more
+none-queued rows xs q more sane e =
+    record {
+      contents-are = sym (append-nil (contents (ringOf rows xs) q)) ∙ ap (λ (l : List Bound). contents (ringOf rows xs) q ++ l) (sym e);
+      sane = sane;
+      waiting = omega arith;
+      table-is = refl;
+      kept = kept-same rows xs;
+    }
 
 -- one after the other
 pub both-queued : (rows : ℕ) (xs ys zs : List ℕ) (q r u : Queue) (l m : List Bound) → Queued rows xs ys q r l → Queued rows ys zs r u m
@@ -81,6 +81,8 @@ both-queued rows xs ys zs q r u l m a b =
           b .contents-are ∙ ap (λ (k : List Bound). k ++ m) (a .contents-are) ∙ append-assoc (contents (ringOf rows xs) q) l m;
       sane = b .sane;
       waiting = omega (arith, a .waiting, b .waiting, length-append l m);
+      table-is = b .table-is ∙ a .table-is;
+      kept = kept-then rows xs ys zs (a .kept) (b .kept);
     }
 
 -- ---- the two parts
@@ -114,10 +116,10 @@ module _ (rows : ℕ) (places : List ℕ) (zeros : Zeros) (i : Bound) (cut : ℕ
       }
 
   pub lower-pushing : (ys : List ℕ) (r : Queue) → Queued rows xs ys queue r (part (upperPart i cut (parts .upper)))
-      → Became rows xs ys (tableOf rows xs) (ringOf rows ys) → Pushing rows ys r (lowerPart i cut (parts .lower))
-  lower-pushing ys r a b =
+      → Pushing rows ys r (lowerPart i cut (parts .lower))
+  lower-pushing ys r a =
       record {
-        enough = became-enough rows xs ys (tableOf rows xs) (ringOf rows ys) (parting .enough) b;
+        enough = kept-enough rows xs ys (parting .enough) (a .kept);
         sane = a .sane;
         room = omega (arith, parting .room, a .waiting, part-few (upperPart i cut (parts .upper)));
         small =

@@ -31,11 +31,12 @@ use Rattle.column_turns.specs.declared.interval_steps.Held.the-variants.
 use Rattle.column_turns.specs.declared.interval_steps.Standing.{Standing}
 use Rattle.column_turns.specs.declared.Course.{Course}
 use Rattle.column_turns.specs.declared.Attempt.{Attempt}
-use Rattle.column_turns.specs.Lent.{tableOf, ringOf, Enough, Became}
+use Rattle.column_turns.specs.Lent.{tableOf, ringOf, Enough}
 use Rattle.column_turns.specs.Try.{searchedColumn, treeAt, triedTree}
 use Rattle.column_turns.specs.Steps.{improvedBy, endsColumn}
 use Rattle.column_turns.specs.Parts.{partsQueued}
-use Rattle.column_turns.specs.Course.{heldAfter, standingAfter, Attempted, Matches}
+use Rattle.column_turns.specs.Promise.{heldAfter, standingAfterRun}
+use Rattle.column_turns.specs.Course.{Attempted, Matches}
 use Rattle.column_turns.proofs.Lent.{table-length}
 
 -- ---- the table
@@ -99,7 +100,7 @@ parts-queued c z b m i =
 module _ (s : Sheet) (t : Terms) (c : ℕ) (p : Standing) (xs ys zs : List ℕ) (course : Course) (state : State) (i : Bound) (tried : Attempt)
     (queue : Queue) (enough : Enough (s .rows) xs) (inside : middle i < s .rows) (matches : Matches s t c p xs course state)
     (attempted : Attempted s (t .support) c (middle i) (course .zeros) xs ys tried)
-    (later : Became (s .rows) ys zs (tableOf (s .rows) ys) (ringOf (s .rows) zs))
+    (table-is : tableOf (s .rows) zs ≡ tableOf (s .rows) ys)
     (waiting : contents (ringOf (s .rows) zs) queue
     ≡ pick (endsColumn (tried .tree .error) (course .standing .error)) []
     (contents (ringOf (s .rows) ys) (course .queue)
@@ -125,15 +126,15 @@ module _ (s : Sheet) (t : Terms) (c : ℕ) (p : Standing) (xs ys zs : List ℕ) 
   tree-error = refl
 
   current-is : course .standing .error ≡ state .error
-  unfolding standingAfter
+  unfolding standingAfterRun
   current-is = ap (λ (z : Standing). z .error) (matches .standing)
 
   zeros-next : tried .zeros ≡ zerosOf col (m ∷ state .tried)
   unfolding zerosOf leftError rightError
   zeros-next = attempted .zeros-are ∙ ap (λ (z : Zeros). zerosAfter z m ((errorsAt s (t .support) c m) .0) ((errorsAt s (t .support) c m) .1)) (matches .zeros)
 
-  standing-next : improvedBy (course .standing) (tried .tree) ≡ standingAfter s (t .support) c p (tryCut col (t .bound) state (state .queue) i)
-  unfolding improvedBy standingAfter tryCut
+  standing-next : improvedBy (course .standing) (tried .tree) ≡ standingAfterRun s (t .support) c p (tryCut col (t .bound) state (state .queue) i)
+  unfolding improvedBy standingAfterRun tryCut
   standing-next =
       let h = held-next s (t .support) c m (errorOf col m) (state .error) (state .best) (p .held) whole-error in
       let n : p .tried + triesOf state + 1 ≡ p .tried + suc (triesOf state) = omega arith in
@@ -165,7 +166,7 @@ module _ (s : Sheet) (t : Terms) (c : ℕ) (p : Standing) (xs ys zs : List ℕ) 
   agrees-next =
       let table : List ℕ = tableOf (s .rows) xs in
       let after : List ℕ = recordedAfter table m ((errorsAt s (t .support) c m) .0) ((errorsAt s (t .support) c m) .1) in
-      let same : tableOf (s .rows) zs ≡ after = later .table-is ∙ attempted .lent .table-is in
+      let same : tableOf (s .rows) zs ≡ after = table-is ∙ attempted .lent .table-is in
       let fits : 2 * m + 1 < length table = omega (arith, table-length (s .rows) xs enough) in
       subst (λ (l : List ℕ). All (Agree col (recorded l)) (m ∷ state .tried)) (sym same) (
         sym (recorded-there table m ((errorsAt s (t .support) c m) .0) ((errorsAt s (t .support) c m) .1) fits),

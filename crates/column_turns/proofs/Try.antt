@@ -15,18 +15,19 @@ use Rattle.sheet.specs.declared.Size.{Size}
 use Rattle.sheet.specs.Sheet.{Sheet, valueOf, labelOf, rowAt, valueAt, countOf, placeOf, everyRow}
 use Rattle.sheet.specs.Check.{sheetOf}
 use Rattle.sheet.specs.Sound.{Sound}
+use Rattle.sheet.specs.Rows.{sentLeft}
 use Rattle.sheet.proofs.Index.{column-in}
 use Rattle.tree.specs.Answer.{sideError}
-use Rattle.leaves_score.specs.Root.{precedingPlace, cutThreshold, cutQuestion, markOf, sidesAt, errorsAt}
+use Rattle.leaves_score.specs.Root.{precedingPlace, cutThreshold, cutQuestion, sidesAt, errorsAt}
 use Rattle.leaves_score.specs.Scan.{sidesOf}
 use Rattle.side_laws.specs.Opt.{answer}
 use Rattle.side_laws.specs.Root.{rootMistakes}
 use Rattle.side_laws.proofs.Cuts.{at-cuts}
 use Rattle.side_laws.proofs.Root.{place-of, cut-mistakes}
-use Rattle.leaves_score.specs.SideLists.{goLeft}
-use Rattle.leaves_score.specs.Lists.{scanOf, Scannable}
+use Rattle.leaves_score.specs.Lists.{scanOf, Scannable, goLeft}
 use Rattle.leaves_score.proofs.Accepted.{accepted, same-sides}
-use Rattle.column_turns.specs.Ready.{Whole, MarkingCut, MarkedTo, placeBefore, TryingCut, Trying}
+use Rattle.column_turns.specs.Ready.{MarkingCut, MarkedTo, placeBefore, TryingCut, Trying}
+use Rattle.column_turns.specs.Promise.{Whole}
 use Rattle.column_turns.proofs.Lent.{marks-length}
 use Rattle.leaves_score.proofs.Marks.{sides-alike}
 
@@ -74,10 +75,10 @@ module _ (s : Sheet) (whole : Whole s) (c k : ℕ) (here : c < s .columns) (cut-
 
   -- the marks say what the cut does
   pub marks-tell : (size : Size) (marks : List ℕ) → size .rows ≡ s .rows → MarkedTo size (s .order) c (placeOf s c k) marks (s .rows)
-      → (r : ℕ) → r < s .rows → goLeft marks r ≡ markOf s (cutQuestion s c k) r
+      → (r : ℕ) → r < s .rows → goLeft marks r ≡ sentLeft s (cutQuestion s c k) r
   unfolding rowAt
   marks-tell size marks e marked r h =
-      let left : ℕ → Bool = markOf s (cutQuestion s c k) in
+      let left : ℕ → Bool = sentLeft s (cutQuestion s c k) in
       let m : MarkedTo (record { rows = s .rows; columns = size .columns; labels = size .labels }) (s .order) c (placeOf s c k) marks (s .rows) =
       subst (λ (n : ℕ). MarkedTo (record { rows = n; columns = size .columns; labels = size .labels }) (s .order) c (placeOf s c k) marks (s .rows)) e marked in
       let z = place-of s sound c here r h in
@@ -87,7 +88,7 @@ module _ (s : Sheet) (whole : Whole s) (c k : ℕ) (here : c < s .columns) (cut-
   pub errors-few : (support : ℕ) → (errorsAt s support c k) .0 + (errorsAt s support c k) .1 ≤ s .rows
   unfolding rootMistakes
   errors-few support =
-      let wrong : ℕ → Bool = λ x. not (eqb (labelOf s x) (pick (markOf s (cutQuestion s c k) x) (answer s (sidesAt s support c k .left) x) (answer s (sidesAt s support c k .right) x))) in
+      let wrong : ℕ → Bool = λ x. not (eqb (labelOf s x) (pick (sentLeft s (cutQuestion s c k) x) (answer s (sidesAt s support c k .left) x) (answer s (sidesAt s support c k .right) x))) in
       omega (arith, cut-mistakes s sound support c k, tally-le wrong (everyRow s), length-table (λ r. r) (s .rows))
 
 -- ---- what a try asks of its parts
@@ -148,13 +149,13 @@ module _ (size : Size) (values : List Float) (codes order cuts : List ℕ) (colu
   pub tried-sides : (counts : List ℕ) (support : ℕ) (marks : List ℕ)
       → MarkedTo size order column (getD cuts (column * size .rows + cut) 0) marks (size .rows)
       → sidesOf (scanOf sheet) support (goLeft marks) ≡ sidesAt (sheetOf size values codes order cuts counts) support column cut
-  unfolding sidesAt placeOf rowAt markOf valueOf
+  unfolding sidesAt placeOf rowAt sentLeft valueOf
   tried-sides counts support marks marked =
       let s : Sheet = sheetOf size values codes order cuts counts in
       let e : cutThreshold sheet column cut ≡ cutThreshold s column cut =
       sym (threshold-is size values codes order cuts (trying .counts) column cut) ∙ threshold-is size values codes order cuts counts column cut in
       same-sides s (goLeft marks) support
-      ∙ sides-alike s (goLeft marks) (markOf s (cutQuestion s column cut)) (λ d l i h. trying .whole .sound .column d l .in-rows i h)
+      ∙ sides-alike s (goLeft marks) (sentLeft s (cutQuestion s column cut)) (λ d l i h. trying .whole .sound .column d l .in-rows i h)
       (λ r h. marks-tell sheet (trying .whole) column cut (trying .here) (trying .cut-in) size marks refl marked r h
       ∙ ap (goesLeft (valueOf s column r)) e)
       support

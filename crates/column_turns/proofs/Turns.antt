@@ -18,6 +18,7 @@ use Rattle.sheet.specs.Limits.{mostColumns}
 use Rattle.sheet.specs.Sheet.{Sheet, countOf, placesOf}
 use Rattle.sheet.specs.Check.{sheetOf}
 use Rattle.leaves_score.specs.Root.{errorsAt}
+use Rattle.cuts.specs.Lookups.{Ascending}
 use Rattle.cuts.proofs.Feasible.{feasible-exactly}
 use Rattle.interval_pruner.specs.declared.Tried.{Tried}
 use Rattle.interval_pruner.specs.declared.Tried.the-variants.{Nothing, Cut}
@@ -43,13 +44,14 @@ use Rattle.column_search.proofs.Steps.{shrunk-in}
 use Rattle.column_turns.specs.declared.interval_steps.Standing.{Standing}
 use Rattle.column_turns.specs.declared.Course.{Course}
 use Rattle.column_turns.specs.declared.Attempt.{Attempt}
-use Rattle.column_turns.specs.Lent.{tableOf, ringOf}
-use Rattle.column_turns.specs.Ready.{Whole, Trying}
+use Rattle.column_turns.specs.Lent.{tableOf, ringOf, RestKept}
+use Rattle.column_turns.specs.Promise.{Whole, mostTries, standingAfterRun, feasibleAt, firstAt, lastAt}
+use Rattle.column_turns.specs.Ready.{Trying}
 use Rattle.column_turns.specs.Try.{searchedColumn}
-use Rattle.column_turns.specs.Steps.{mostTries, prunedOf}
+use Rattle.column_turns.specs.Steps.{prunedOf, PrunedBy}
 use Rattle.column_turns.specs.Parts.{PartsWaiting, CutsNumbered}
-use Rattle.column_turns.specs.Course.{standingAfter, feasibleAt, firstAt, lastAt, Matches, Stands, Begun, Attempted, Attempting}
-use Rattle.column_turns.proofs.Lent.{became-enough}
+use Rattle.column_turns.specs.Course.{Matches, Stands, Begun, Turning, Turned, Attempted, Attempting}
+use Rattle.column_turns.proofs.Lent.{kept-enough}
 use Rattle.column_turns.proofs.Places.{places-count, places-ascend, places-low}
 
 -- ---- the middle
@@ -117,7 +119,7 @@ module _ (size : Size) (values : List Float) (codes order cuts counts : List ℕ
       let n : length (placesOf sheet c) ≡ countOf sheet c = places-count sheet (attempting .whole) c (attempting .here) in
       let small : countOf sheet c < size .rows = attempting .whole .sound .column c (attempting .here) .cuts .count-most in
       record {
-        enough = became-enough (size .rows) xs ys _ _ (attempting .enough) (attempted .lent);
+        enough = kept-enough (size .rows) xs ys (attempting .enough) (attempted .lent .kept);
         listed = omega (arith, n, small, attempting .enough .few);
         ascending = places-ascend sheet (attempting .whole) c (attempting .here);
         full = attempting .full;
@@ -168,7 +170,7 @@ pruned-same col table z b i l r =
 -- nothing is: the state stays
 pub after-none : (s : Sheet) (t : Terms) (c : ℕ) (p : Standing) (xs : List ℕ) (course : Course) (state : State) (left : Shrunk) → left ≡ Dropped
     → Matches s t c p xs course state → Matches s t c p xs course (afterShrink (searchedColumn s t c) (t .bound) state (state .queue) left)
-unfolding afterShrink standingAfter
+unfolding afterShrink standingAfterRun
 after-none s t c p xs course state left e matches =
     subst (λ (z : Shrunk). Matches s t c p xs course (afterShrink (searchedColumn s t c) (t .bound) state (state .queue) z)) (sym e)
     (record { standing = matches .standing; zeros = matches .zeros; queue = matches .queue; sane = matches .sane; agrees = matches .agrees })
@@ -234,11 +236,11 @@ module _ (s : Sheet) (t : Terms) (c : ℕ) (xs : List ℕ) (course : Course) (be
 
   -- the definition's error and zero marks are the code's
   current : course .standing .error ≡ state .error
-  unfolding standingAfter
+  unfolding standingAfterRun
   current = ap (λ (z : Standing). z .error) (stands .matches .standing)
 
   -- what the code prunes is what the definition prunes
-  pub pruned-is : prunedOf (column.recordedColumn (placesOf s c) (tableOf (s .rows) xs) (t .gap) (leb (t .support) 1)) (course .zeros) (min (course .standing .error) (t .bound)) b
+  pruned-is : prunedOf (column.recordedColumn (placesOf s c) (tableOf (s .rows) xs) (t .gap) (leb (t .support) 1)) (course .zeros) (min (course .standing .error) (t .bound)) b
       ≡ prunedOf col (zerosOf col (state .tried)) (limit (t .bound) (state .error)) b
   pruned-is =
       (λ k. prunedOf (column.recordedColumn (placesOf s c) (tableOf (s .rows) xs) (t .gap) (leb (t .support) 1)) (stands .matches .zeros k) (min (current k) (t .bound)) b)
@@ -249,8 +251,8 @@ module _ (s : Sheet) (t : Terms) (c : ℕ) (xs : List ℕ) (course : Course) (be
   turn-is left e = ap (turnOn col (t .bound) state) queue-is ∙ turn-pruned col (t .bound) state b rest ∙ ap (afterShrink col (t .bound) state rest) e
 
   -- without its first interval, the queue is the state's
-  pub without-first : Matches s t c p xs (record { standing = course .standing; zeros = course .zeros; queue = others }) (dropped state rest)
-  unfolding standingAfter
+  without-first : Matches s t c p xs (record { standing = course .standing; zeros = course .zeros; queue = others }) (dropped state rest)
+  unfolding standingAfterRun
   without-first =
       record {
         standing = stands .matches .standing;
@@ -261,7 +263,7 @@ module _ (s : Sheet) (t : Terms) (c : ℕ) (xs : List ℕ) (course : Course) (be
       }
 
   -- whatever is left, the course after it stands
-  pub stands-next : (zs : List ℕ) (course2 : Course) (left : Shrunk)
+  stands-next : (zs : List ℕ) (course2 : Course) (left : Shrunk)
       → prunedOf col (zerosOf col (state .tried)) (limit (t .bound) (state .error)) b ≡ left
       → Matches s t c p zs course2 (afterShrink col (t .bound) (dropped state rest) rest left)
       → Stands s t c p zs course2 × (total weight (contents (ringOf (s .rows) zs) (course2 .queue)) < total weight (contents ring (course .queue)))
@@ -288,7 +290,7 @@ module _ (s : Sheet) (t : Terms) (c : ℕ) (xs : List ℕ) (course : Course) (be
   attempting-next : p .tried ≤ mostColumns * mostTries → (j : Bound)
       → prunedOf col (zerosOf col (state .tried)) (limit (t .bound) (state .error)) b ≡ To j
       → Attempting s t c xs (record { standing = course .standing; zeros = course .zeros; queue = others }) j
-  unfolding standingAfter
+  unfolding standingAfterRun
   attempting-next few j e =
       let in-b : Inside b j = subst (IfTo (Inside b)) e (pruned-in col (zerosOf col (state .tried)) (limit (t .bound) (state .error)) b) in
       let rows : countOf s c < s .rows = begun .whole .sound .column c (begun .here) .cuts .count-most in
@@ -335,8 +337,37 @@ module _ (s : Sheet) (t : Terms) (c : ℕ) (xs : List ℕ) (course : Course) (be
             );
       }
 
-  pub attempting-left : p .tried ≤ mostColumns * mostTries → (left : Shrunk)
-      → prunedOf col (zerosOf col (state .tried)) (limit (t .bound) (state .error)) b ≡ left
-      → IfTo (Attempting s t c xs (record { standing = course .standing; zeros = course .zeros; queue = others })) left
-  attempting-left few Dropped e = tt
-  attempting-left few (To j) e = attempting-next few j e
+-- ---- a turn
+
+-- what the code prunes, by the places that it reads
+module _ (s : Sheet) (t : Terms) (c : ℕ) (xs : List ℕ) (course : Course) (turning : Turning s t c xs course) (b : Bound) (others : Queue)
+    (taken : record { bound = b; queue = others } ≡ popped (ringOf (s .rows) xs) (course .queue)) (places : List ℕ) (places-are : places ≡ placesOf s c)
+    (left : Shrunk) (pruned : PrunedBy (s .rows) t places (course .zeros) b (course .standing .error) xs left) where
+  begun : Begun s t c xs
+  begun = turning .begun
+
+  left-is : (p : Standing) (stands : Stands s t c p xs course)
+      → prunedOf (searchedColumn s t c) (zerosOf (searchedColumn s t c) (stands .state .tried)) (limit (t .bound) (stands .state .error)) b ≡ left
+  left-is p stands =
+      sym (pruned-is s t c xs course begun (turning .waits) p stands b others taken)
+      ∙ sym (pruned (subst Ascending (sym places-are) (places-ascend s (begun .whole) c (begun .here)))
+      ∙ (λ k. prunedOf (column.recordedColumn (places-are k) (tableOf (s .rows) xs) (t .gap) (leb (t .support) 1)) (course .zeros) (min (course .standing .error) (t .bound)) b))
+
+  pub turn-attempts : (j : Bound) → left ≡ To j → Attempting s t c xs (record { standing = course .standing; zeros = course .zeros; queue = others }) j
+  turn-attempts j e =
+      attempting-next s t c xs course begun (turning .waits) (turning .from) (turning .stands) b others taken (turning .few) j
+      (left-is (turning .from) (turning .stands) ∙ e)
+
+  -- a course that is the definition's after what is left is one turn on
+  pub turn-done : (zs : List ℕ) (next : Course)
+      → ((p : Standing) (state : State) → Matches s t c p xs (record { standing = course .standing; zeros = course .zeros; queue = others }) state
+      → Matches s t c p zs next (afterShrink (searchedColumn s t c) (t .bound) state (state .queue) left))
+      → RestKept (s .rows) xs zs → Turned s t c course xs next zs
+  turn-done zs next follows kept =
+      let same : (p : Standing) (stands : Stands s t c p xs course)
+      → Stands s t c p zs next × (total weight (contents (ringOf (s .rows) zs) (next .queue)) < total weight (contents (ringOf (s .rows) xs) (course .queue))) =
+      λ p stands.
+      stands-next s t c xs course begun (turning .waits) p stands b others taken zs next left (left-is p stands)
+      (follows p (dropped (stands .state) (contents (ringOf (s .rows) xs) others))
+      (without-first s t c xs course begun (turning .waits) p stands b others taken)) in
+      record { stands = λ p stands. same p stands .0; lighter = same (turning .from) (turning .stands) .1; kept = kept }

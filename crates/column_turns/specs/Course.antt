@@ -1,17 +1,15 @@
--- The state of a column's search as the code keeps it, beside the definition's: the error, the tries and the tree held so far, the zero marks and the
--- queue, with the table of errors and the ring in lent words. Definitions, and what one must say of the other.
+-- For proofs only. The state of a column's search as the code keeps it, beside the definition's: the error, the tries and the tree held so far, the
+-- zero marks and the queue, with the table of errors and the ring in lent words; and what the functions of a turn leave.
 use mathlib.Core.Path.{_≡_}
-use Prim.Native.Nat.{ℕ, _+_, _-_, _*_, _≤_, _<_}
-use mathlib.Core.Option.{Option, none, some}
+use Prim.Native.Nat.{ℕ, _+_, _*_, _≤_, _<_}
 use mathlib.Core.List.{List, [], _∷_}
-use lib.Dec.{ltb}
-use Rattle.basics.specs.Choice.{pick}
-use Rattle.basics.specs.Lists.{All}
+use lib.Ieee.{Float}
+use Rattle.basics.specs.Lists.{All, total}
+use Rattle.sheet.specs.declared.Size.{Size}
 use Rattle.sheet.specs.declared.Terms.{Terms}
 use Rattle.sheet.specs.Limits.{mostColumns}
-use Rattle.sheet.specs.Sheet.{Sheet, countOf, beforeCuts}
-use Rattle.cuts.specs.declared.Run.{Run}
-use Rattle.cuts.specs.Feasible.{feasibleOf}
+use Rattle.sheet.specs.Sheet.{Sheet, countOf}
+use Rattle.sheet.specs.Check.{sheetOf}
 use Rattle.leaves_score.specs.Root.{errorsAt}
 use Rattle.interval_pruner.specs.declared.Tried.the-variants.{Nothing}
 use Rattle.interval_pruner.specs.declared.Bound.{Bound}
@@ -20,46 +18,24 @@ use Rattle.interval_pruner.specs.Column.{recorded}
 use Rattle.interval_pruner.specs.Pruner.{zerosAfter, recordedAfter}
 use Rattle.interval_queue.specs.Ring.{contents}
 use Rattle.interval_queue.specs.Laws.{Sane}
-use Rattle.column_search.specs.Search.{State, zerosOf, columnRun, triesOf}
+use Rattle.column_search.specs.Search.{State, zerosOf, tryCut}
 use Rattle.column_search.specs.Laws.{Agree, IfCut}
-use Rattle.column_search.specs.Loop.{Running}
-use Rattle.column_turns.specs.declared.interval_steps.Held.{Held}
-use Rattle.column_turns.specs.declared.interval_steps.Held.the-variants.{Rule}
+use Rattle.column_search.specs.Loop.{Running, weight}
 use Rattle.column_turns.specs.declared.interval_steps.Standing.{Standing}
 use Rattle.column_turns.specs.declared.Course.{Course}
+use Rattle.column_turns.specs.declared.ColumnCut.{ColumnCut}
 use Rattle.column_turns.specs.declared.Attempt.{Attempt}
-use Rattle.column_turns.specs.Steps.{mostTries}
 use Rattle.column_turns.specs.Parts.{CutsNumbered}
-use Rattle.column_turns.specs.Lent.{tableOf, ringOf, Enough, Became}
-use Rattle.column_turns.specs.Ready.{Whole}
-use Rattle.column_turns.specs.Try.{searchedColumn, treeAt, triedTree}
-
--- ---- after a run of a column
-
--- the tree held after a run of column c that ends with that best cut and that error
-unfoldable pub heldAfter : Sheet → ℕ → ℕ → Option ℕ → ℕ → Held → Held
-heldAfter s support c none error held = held
-heldAfter s support c (some k) error held = Rule (treeAt s support c k error)
-
-unfoldable pub standingAfter : Sheet → ℕ → ℕ → Standing → State → Standing
-standingAfter s support c p run =
-    record { error = run .error; tried = p .tried + triesOf run; held = heldAfter s support c (run .best) (run .error) (p .held) }
+use Rattle.column_turns.specs.Lent.{tableOf, ringOf, Enough, RestKept}
+use Rattle.column_turns.specs.Promise.{Whole, mostTries, standingAfterRun, feasibleAt, firstAt, lastAt}
+use Rattle.column_turns.specs.Ready.{Became}
+use Rattle.column_turns.specs.Try.{searchedColumn, triedTree}
 
 -- ---- within a column
 
--- the feasible cuts' numbers
-abbrev pub feasibleAt : Sheet → Terms → ℕ → Run
-feasibleAt s t c = feasibleOf (beforeCuts s c) (s .rows) (t .support)
-
-abbrev pub firstAt : Sheet → Terms → ℕ → ℕ
-firstAt s t c = feasibleAt s t c .first
-
-abbrev pub lastAt : Sheet → Terms → ℕ → ℕ
-lastAt s t c = feasibleAt s t c .end - 1
-
 -- the code's state in a column that was begun with p, for the definition's
 pub record Matches (s : Sheet) (t : Terms) (c : ℕ) (p : Standing) (scratch : List ℕ) (course : Course) (state : State) : Type 0 where
-  pub standing : course .standing ≡ standingAfter s (t .support) c p state
+  pub standing : course .standing ≡ standingAfterRun s (t .support) c p state
   pub zeros : course .zeros ≡ zerosOf (searchedColumn s t c) (state .tried)
   pub queue : contents (ringOf (s .rows) scratch) (course .queue) ≡ state .queue
   pub sane : Sane (ringOf (s .rows) scratch) (course .queue)
@@ -86,6 +62,12 @@ pub record Turning (s : Sheet) (t : Terms) (c : ℕ) (scratch : List ℕ) (cours
   pub stands : Stands s t c from scratch course
   pub waits : 0 < course .queue .waiting
 
+-- after a turn the code's state is one of the same run still, and less waits
+pub record Turned (s : Sheet) (t : Terms) (c : ℕ) (course : Course) (was : List ℕ) (next : Course) (scratch : List ℕ) : Type 0 where
+  pub stands : (p : Standing) → Stands s t c p was course → Stands s t c p scratch next
+  pub lighter : total weight (contents (ringOf (s .rows) scratch) (next .queue)) < total weight (contents (ringOf (s .rows) was) (course .queue))
+  pub kept : RestKept (s .rows) was scratch
+
 -- ---- steps 3 to 5
 
 -- step 3: the tree of the cut, and its errors in the table and in the zero marks
@@ -94,6 +76,11 @@ pub record Attempted (s : Sheet) (support c k : ℕ) (zeros : Zeros) (was scratc
   pub zeros-are : attempt .zeros ≡ zerosAfter zeros k ((errorsAt s support c k) .0) ((errorsAt s support c k) .1)
   pub lent :
       Became (s .rows) was scratch (recordedAfter (tableOf (s .rows) was) k ((errorsAt s support c k) .0) ((errorsAt s support c k) .1)) (ringOf (s .rows) was)
+
+-- a try does not look at how many cuts the columns have
+abbrev pub AttemptedAt : Size → List Float → List ℕ → List ℕ → List ℕ → ℕ → ColumnCut → Zeros → List ℕ → Attempt → List ℕ → Type 0
+AttemptedAt size values codes order cuts support at zeros was attempt scratch =
+    (counts : List ℕ) → Attempted (sheetOf size values codes order cuts counts) support (at .column) (at .cut) zeros was scratch attempt
 
 -- an interval of listed cuts of a sheet's column, with remembered cuts of the list, whose middle is tried
 pub record Attempting (s : Sheet) (t : Terms) (c : ℕ) (scratch : List ℕ) (course : Course) (i : Bound) : Type 0 where
@@ -109,6 +96,12 @@ pub record Attempting (s : Sheet) (t : Terms) (c : ℕ) (scratch : List ℕ) (co
   pub sane : Sane (ringOf (s .rows) scratch) (course .queue)
   pub room : course .queue .waiting + 2 ≤ s .rows
 
+-- steps 3 to 5: whatever state of the definition the code was in, it is in the one after the try
+pub record IntervalTried (s : Sheet) (t : Terms) (c : ℕ) (course : Course) (i : Bound) (was : List ℕ) (next : Course) (scratch : List ℕ) : Type 0 where
+  pub matches : (p : Standing) (state : State) → Matches s t c p was course state
+      → Matches s t c p scratch next (tryCut (searchedColumn s t c) (t .bound) state (state .queue) i)
+  pub kept : RestKept (s .rows) was scratch
+
 -- ---- a whole column
 
 -- one interval waits, nothing was tried
@@ -117,22 +110,3 @@ pub record Opened (rows : ℕ) (scratch : List ℕ) (first last : ℕ) (standing
   pub zeros : course .zeros ≡ record { left = Nothing; right = Nothing }
   pub queue : contents (ringOf rows scratch) (course .queue) ≡ record { first = first; last = last; left = Nothing; right = Nothing } ∷ []
   pub sane : Sane (ringOf rows scratch) (course .queue)
-
-pub record Entering (s : Sheet) (t : Terms) (c first last : ℕ) (standing : Standing) (scratch : List ℕ) : Type 0 where
-  pub begun : Begun s t c scratch
-  pub first-is : first ≡ firstAt s t c
-  pub last-is : last ≡ lastAt s t c
-  pub few : standing .tried ≤ mostColumns * mostTries
-
-pub record Searching (s : Sheet) (c : ℕ) (standing : Standing) (scratch : List ℕ) : Type 0 where
-  pub whole : Whole s
-  pub here : c < s .columns
-  pub enough : Enough (s .rows) scratch
-  pub few : standing .tried ≤ mostColumns * mostTries
-
--- the standing after column c
-unfoldable pub columnAfter : Sheet → Terms → ℕ → Standing → Standing
-columnAfter s t c p =
-    pick (ltb (firstAt s t c) (feasibleAt s t c .end))
-    (standingAfter s (t .support) c p (columnRun (searchedColumn s t c) (t .bound) (firstAt s t c) (lastAt s t c) (p .error)))
-    p

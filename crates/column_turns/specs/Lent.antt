@@ -1,5 +1,5 @@
--- The lent words, eight a row: the errors of the cuts tried, two words a cut; the ring of intervals, four words a slot, a slot a row; the side
--- mark of each row; one word a row to spare, which the input check uses. Definitions only.
+-- For a signer. The lent words, eight a row: the errors of the cuts tried, two words a cut; the ring of intervals, four words a slot, a slot a
+-- row; the side mark of each row; one word a row to spare. The input check, which comes before, uses the first word of each row. Definitions only.
 use mathlib.Core.Path.{_≡_}
 use Prim.Native.Nat.{ℕ, _-_, _*_, _≤_}
 use mathlib.Core.List.{List}
@@ -35,9 +35,7 @@ pub record Enough (rows : ℕ) (scratch : List ℕ) : Type 0 where
   pub few : rows ≤ mostRows
   pub words : wordsPerRow * rows ≤ length scratch
 
--- lent words that became others: these are the table and the ring now, and what is not the search's is as it was
-pub record Became (rows : ℕ) (was scratch table ring : List ℕ) : Type 0 where
+-- as many words as before, and what is not the search's is as it was
+pub record RestKept (rows : ℕ) (was scratch : List ℕ) : Type 0 where
   pub size : length scratch ≡ length was
   pub rest : restOf rows scratch ≡ restOf rows was
-  pub table-is : tableOf rows scratch ≡ table
-  pub ring-is : ringOf rows scratch ≡ ring

@@ -1,4 +1,4 @@
--- The queue of a column in lent words: what step 5 adds to it, and what that needs. Definitions only.
+-- For proofs only. The queue of a column in lent words: what step 5 adds to it, and what that needs.
 use mathlib.Core.Path.{_≡_}
 use Prim.Native.Nat.{ℕ, _+_, _≤_, _<_}
 use mathlib.Core.Bool.{Bool}
@@ -19,7 +19,8 @@ use Rattle.interval_queue.specs.Ring.{contents}
 use Rattle.interval_queue.specs.Laws.{Sane, SmallBound}
 use Rattle.column_search.specs.Search.{part, upperPart, lowerPart}
 use Rattle.column_search.specs.Laws.{IfCut}
-use Rattle.column_turns.specs.Lent.{ringOf, Enough}
+use Rattle.column_turns.specs.declared.interval_steps.Reach.{Reach}
+use Rattle.column_turns.specs.Lent.{tableOf, ringOf, Enough, RestKept}
 
 -- a cut of a list of n, if there is one
 abbrev pub CutsNumbered : ℕ → Tried → Type 0
@@ -38,11 +39,22 @@ pub record Pushing (rows : ℕ) (scratch : List ℕ) (queue : Queue) (i : Bound)
   pub room : queue .waiting < rows
   pub small : i .first ≤ i .last → SmallBound i
 
--- one more interval in the queue, at its end
+-- more intervals in the queue, at its end, and the table as it was
 pub record Queued (rows : ℕ) (was scratch : List ℕ) (queue after : Queue) (more : List Bound) : Type 0 where
   pub contents-are : contents (ringOf rows scratch) after ≡ contents (ringOf rows was) queue ++ more
   pub sane : Sane (ringOf rows scratch) after
   pub waiting : after .waiting ≤ queue .waiting + length more
+  pub table-is : tableOf rows scratch ≡ tableOf rows was
+  pub kept : RestKept rows was scratch
+
+-- what waits after a try: nothing if the column is over, else what waited and the parts of the interval
+pub record QueuedAfter (rows : ℕ) (places : List ℕ) (reach : Reach) (zeros : Zeros) (over : Bool) (i : Bound) (cut : ℕ) (queue : Queue) (was : List ℕ)
+    (after : Queue) (scratch : List ℕ) : Type 0 where
+  pub contents-are : contents (ringOf rows scratch) after
+      ≡ pick over [] (contents (ringOf rows was) queue ++ partsQueued places (reach .gap) (reach .small) zeros (reach .excess) cut i)
+  pub sane : Sane (ringOf rows scratch) after
+  pub table-is : tableOf rows scratch ≡ tableOf rows was
+  pub kept : RestKept rows was scratch
 
 -- an interval of listed cuts, with remembered cuts of the list, whose middle is tried
 pub record PartsWaiting (rows : ℕ) (places : List ℕ) (zeros : Zeros) (i : Bound) (cut : ℕ) (queue : Queue) (scratch : List ℕ) : Type 0 where

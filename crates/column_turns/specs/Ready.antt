@@ -1,4 +1,4 @@
--- What the functions behind the search may count on once the input check has accepted the sheet. Statements only.
+-- For proofs only. What the functions behind the search may count on once the input check has accepted the sheet, and what they leave. Statements only.
 use mathlib.Core.Path.{_≡_}
 use Prim.Native.Nat.{ℕ, zero, suc, _+_, _*_, _≤_, _<_}
 use mathlib.Core.Bool.{Bool}
@@ -8,16 +8,18 @@ use lib.Dec.{ltb, eqb}
 use lib.Ieee.{Float}
 use Rattle.sheet.specs.declared.Size.{Size}
 use Rattle.sheet.specs.Limits.{mostRows, mostColumns}
-use Rattle.sheet.specs.Sheet.{Sheet, countOf}
+use Rattle.sheet.specs.Sheet.{countOf}
 use Rattle.sheet.specs.Check.{sheetOf}
-use Rattle.sheet.specs.Sound.{Sound}
-use Rattle.sheet.specs.Laws.{Lengths}
-use Rattle.column_turns.specs.Lent.{marksOf, Enough}
+use Rattle.tree.specs.declared.Tree.{Tree}
+use Rattle.column_turns.specs.Lent.{tableOf, ringOf, marksOf, Enough, RestKept}
+use Rattle.column_turns.specs.Promise.{Whole}
+use Rattle.column_turns.specs.Try.{triedTree}
 
--- an accepted sheet: sound, and its lists of just the lengths that they must have
-pub record Whole (s : Sheet) : Type 0 where
-  pub sound : Sound s
-  pub lengths : Lengths s
+-- the lent words became others: these are the table and the ring now, and the rest is as it was
+pub record Became (rows : ℕ) (was scratch table ring : List ℕ) : Type 0 where
+  pub kept : RestKept rows was scratch
+  pub table-is : tableOf rows scratch ≡ table
+  pub ring-is : ringOf rows scratch ≡ ring
 
 -- ---- the side marks
 
@@ -67,6 +69,12 @@ pub record Trying (size : Size) (values : List Float) (codes order cuts : List �
   pub here : column < size .columns
   pub cut-in : cut < countOf (sheetOf size values codes order cuts counts) column
   pub enough : Enough (size .rows) scratch
+
+-- the tree that it makes, with the table and the ring as they were
+abbrev pub CutTried : Size → ℕ → List Float → List ℕ → List ℕ → List ℕ → ℕ → ℕ → List ℕ → Tree → List ℕ → Type 0
+CutTried size support values codes order cuts column cut was tree scratch =
+    ((counts : List ℕ) → tree ≡ triedTree (sheetOf size values codes order cuts counts) support column cut)
+    × Became (size .rows) was scratch (tableOf (size .rows) was) (ringOf (size .rows) was)
 
 -- ---- a column's cuts
 

@@ -1,4 +1,4 @@
--- A try of one cut as the first question (document 01, "Search", step 3). What it finds is `sidesAt` of the scan. Definitions only.
+-- For a signer. A try of one cut as the first question (document 01, "Search", step 3). What it finds is `sidesAt` of the scan. Definitions only.
 use Prim.Native.Nat.{ℕ, _+_}
 use lib.Dec.{leb}
 use Rattle.sheet.specs.Sheet.{Sheet, beforeCuts}

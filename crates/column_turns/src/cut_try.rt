@@ -16,11 +16,10 @@ ghost use Rattle.sheet.specs.Limits.{mostRows};
 ghost use Rattle.tree.specs.Answer.{sideError};
 ghost use Rattle.leaves_score.specs.Scan.{sidesOf};
 ghost use Rattle.leaves_score.specs.Root.{cutQuestion};
-ghost use Rattle.leaves_score.specs.SideLists.{goLeft};
-ghost use Rattle.leaves_score.specs.Lists.{Scannable};
-ghost use Rattle.column_turns.specs.Try.{triedTree};
-ghost use Rattle.column_turns.specs.Lent.{tableOf, ringOf, marksOf, Enough, Became};
-ghost use Rattle.column_turns.specs.Ready.{Marking, MarkedTo, MarkingCut, placeBefore, TryingCut, Trying};
+ghost use Rattle.leaves_score.specs.Lists.{Scannable, goLeft};
+ghost use Rattle.column_turns.specs.Lent.{tableOf, ringOf, marksOf, Enough};
+ghost use Rattle.column_turns.specs.Ready.{Became, Marking, MarkedTo, MarkingCut, placeBefore, TryingCut, Trying, CutTried};
+ghost use Rattle.basics.specs.Lent.{before, after};
 
 // The lent words in words a row: first the errors of the cuts tried, then the ring of intervals, then the side marks, then one to spare.
 pub(crate) const RING: usize = 2;
@@ -39,8 +38,8 @@ fn side_mark(i: usize, place: usize) -> u32
 // Every row is marked with the side that it goes to: the rows placed before the cut go left.
 fn mark_sides(size: Size, order: &[u16], column: usize, place: usize, marks: &mut [u32])
     requires { ⌜ Marking size (now order) column (now marks) ⌝ }
-    ensures { λ _. ⌜ length (now (marks .exit)) ≡ length (now (marks .entry)) ⌝ }
-    ensures marked { λ _. ⌜ MarkedTo size (now (order .entry)) column place (now (marks .exit)) (size .rows) ⌝ }
+    ensures { λ _. ⌜ length (after marks) ≡ length (before marks) ⌝ }
+    ensures marked { λ _. ⌜ MarkedTo size (before order) column place (after marks) (size .rows) ⌝ }
 {
     let base = column * size.rows;
     let mut i: usize = 0;
@@ -55,7 +54,7 @@ fn mark_sides(size: Size, order: &[u16], column: usize, place: usize, marks: &mu
 // Where the lower value of a cut's threshold stands.
 fn preceding_place(cuts: &[u16], base: usize, cut: usize) -> usize
     requires { ⌜ base + cut < length (now cuts) ⌝ }
-    ensures { λ r. ⌜ r ≡ placeBefore (now (cuts .entry)) base cut ⌝ }
+    ensures { λ r. ⌜ r ≡ placeBefore (before cuts) base cut ⌝ }
 {
     if cut == 0 {
         return 0;
@@ -73,7 +72,7 @@ fn root_question(
     cut: usize,
 ) -> Question
     requires { ⌜ TryingCut size (now values) (now order) (now cuts) column cut ⌝ }
-    ensures { λ r. ⌜ ((codes counts : List ℕ) → r ≡ cutQuestion (sheetOf size (now (values .entry)) codes (now (order .entry)) (now (cuts .entry)) counts) column cut) ⌝ }
+    ensures { λ r. ⌜ ((codes counts : List ℕ) → r ≡ cutQuestion (sheetOf size (before values) codes (before order) (before cuts) counts) column cut) ⌝ }
 {
     let base = column * size.rows;
     let from = preceding_place(cuts, base, cut);
@@ -102,8 +101,8 @@ pub(crate) fn side_error(side: Side) -> u32
 // The rows' marks at a cut.
 fn mark_cut(size: Size, order: &[u16], cuts: &[u16], column: usize, cut: usize, scratch: &mut [u32])
     requires { ⌜ MarkingCut size (now order) (now cuts) column cut (now scratch) ⌝ }
-    ensures { λ _. ⌜ Became (size .rows) (now (scratch .entry)) (now (scratch .exit)) (tableOf (size .rows) (now (scratch .entry))) (ringOf (size .rows) (now (scratch .entry))) ⌝ }
-    ensures marked { λ _. ⌜ MarkedTo size (now (order .entry)) column (getD (now (cuts .entry)) (column * size .rows + cut) 0) (marksOf (size .rows) (now (scratch .exit))) (size .rows) ⌝ }
+    ensures { λ _. ⌜ Became (size .rows) (before scratch) (after scratch) (tableOf (size .rows) (before scratch)) (ringOf (size .rows) (before scratch)) ⌝ }
+    ensures marked { λ _. ⌜ MarkedTo size (before order) column (getD (before cuts) (column * size .rows + cut) 0) (marksOf (size .rows) (after scratch)) (size .rows) ⌝ }
 {
     let rows = size.rows;
     let base = column * rows;
@@ -123,7 +122,7 @@ fn scan_sides(
     scratch: &[u32],
 ) -> Sides
     requires { ⌜ Enough (size .rows) (now scratch) × Scannable (sheetOf size (now values) (now codes) (now order) [] []) (marksOf (size .rows) (now scratch)) ⌝ }
-    ensures { λ r. ⌜ r ≡ sidesOf (sheetOf size (now (values .entry)) (now (codes .entry)) (now (order .entry)) [] []) support (goLeft (marksOf (size .rows) (now (scratch .entry)))) ⌝ }
+    ensures { λ r. ⌜ r ≡ sidesOf (sheetOf size (before values) (before codes) (before order) [] []) support (goLeft (marksOf (size .rows) (before scratch))) ⌝ }
 {
     let rows = size.rows;
     let from = MARKS * rows;
@@ -144,8 +143,7 @@ pub(crate) fn try_cut(
     scratch: &mut [u32],
 ) -> Tree
     requires { ⌜ Trying size (now values) (now codes) (now order) (now cuts) column cut (now scratch) ⌝ }
-    ensures { λ r. ⌜ ((counts : List ℕ) → r ≡ triedTree (sheetOf size (now (values .entry)) (now (codes .entry)) (now (order .entry)) (now (cuts .entry)) counts) support column cut) ⌝ }
-    ensures lent { λ _. ⌜ Became (size .rows) (now (scratch .entry)) (now (scratch .exit)) (tableOf (size .rows) (now (scratch .entry))) (ringOf (size .rows) (now (scratch .entry))) ⌝ }
+    ensures { λ r. ⌜ CutTried size support (before values) (before codes) (before order) (before cuts) column cut (before scratch) r (after scratch) ⌝ }
 {
     let question = root_question(size, values, order, cuts, column, cut);
     mark_cut(size, order, cuts, column, cut, scratch);

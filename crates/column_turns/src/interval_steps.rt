@@ -6,13 +6,13 @@ use interval_pruner::Zeros;
 use sheet::Terms;
 use tree::Tree;
 ghost use mathlib.Core.Path.{_≡_};
-ghost use Prim.Native.Nat.{_+_, _*_, _≤_, min};
+ghost use Prim.Native.Nat.{_+_, _*_, _≤_};
 ghost use lib.Dec.{leb};
 ghost use Rattle.sheet.specs.Limits.{mostColumns};
-ghost use Rattle.cuts.specs.Lookups.{Ascending};
-ghost use Rattle.interval_pruner.specs.Column.{recordedColumn};
-ghost use Rattle.column_turns.specs.Lent.{tableOf, Enough};
-ghost use Rattle.column_turns.specs.Steps.{prunedOf, reachOf, improvedBy, endsColumn, mostTries};
+ghost use Rattle.column_turns.specs.Lent.{Enough};
+ghost use Rattle.column_turns.specs.Promise.{mostTries};
+ghost use Rattle.column_turns.specs.Steps.{PrunedBy, reachOf, improvedBy, endsColumn};
+ghost use Rattle.basics.specs.Lent.{before};
 
 // The rule held so far, if one was found.
 pub enum Held {
@@ -51,7 +51,7 @@ pub(crate) fn prune(
     scratch: &[u32],
 ) -> Shrunk
     requires { ⌜ Enough rows (now scratch) ⌝ }
-    ensures { λ r. ⌜ (Ascending (now (places .entry)) → r ≡ prunedOf (recordedColumn (now (places .entry)) (tableOf rows (now (scratch .entry))) (terms .gap) (leb (terms .support) 1)) zeros (min error (terms .bound)) bound) ⌝ }
+    ensures { λ r. ⌜ PrunedBy rows terms (before places) zeros bound error (before scratch) r ⌝ }
 {
     let gap = terms.gap;
     let small = is_small(terms.support);

@@ -4,8 +4,14 @@ pub mod interval_steps;
 
 use crate::cut_try::MARKS;
 use crate::cut_try::RING;
+use crate::cut_try::side_error;
+use crate::cut_try::try_cut;
 use crate::interval_steps::Reach;
 use crate::interval_steps::Standing;
+use crate::interval_steps::ends_column;
+use crate::interval_steps::improved;
+use crate::interval_steps::prune;
+use crate::interval_steps::reach_of;
 use basics::wide_entry;
 use basics::wide_word;
 use cuts::feasible_cuts::support_feasible_splits;
@@ -19,31 +25,26 @@ use sheet::Size;
 use sheet::Terms;
 use tree::Tree;
 ghost use mathlib.Core.Path.{_≡_};
-ghost use mathlib.Core.List.{[], _++_, List};
-ghost use Rattle.basics.specs.Choice.{pick};
-ghost use Rattle.interval_queue.specs.Ring.{contents, popped, pushed, pushedWords};
-ghost use Rattle.interval_queue.specs.Laws.{Sane};
-ghost use Rattle.column_search.specs.Search.{part, upperPart, lowerPart, State, tryCut, afterShrink, columnRun};
-ghost use Rattle.column_turns.specs.Lent.{tableOf, ringOf, Enough, Became};
-ghost use Rattle.column_turns.specs.Parts.{PartsWaiting, Pushing, Queued, partsQueued};
+ghost use mathlib.Core.List.{List};
 ghost use Prim.Native.Nat.{ℕ, _≤_, _<_};
 ghost use lib.Ieee.{Float};
-ghost use Rattle.sheet.specs.Check.{sheetOf};
-ghost use Rattle.basics.specs.Lists.{total};
 ghost use Rattle.sheet.specs.Limits.{mostRows};
 ghost use Rattle.sheet.specs.Sheet.{placesOf};
+ghost use Rattle.sheet.specs.Check.{sheetOf};
 ghost use Rattle.interval_pruner.specs.Pruner.{zerosAfter, recordedAfter};
-ghost use Rattle.column_turns.specs.declared.interval_steps.Standing.{Standing};
-ghost use Rattle.column_search.specs.Laws.{IfTo};
-ghost use Rattle.column_search.specs.Loop.{weight};
-ghost use Rattle.column_turns.specs.Try.{searchedColumn};
-ghost use Rattle.column_turns.specs.Course.{Attempted, Matches, Stands, Turning, Attempting, standingAfter, Opened, Entering, Searching, columnAfter};
-ghost use Rattle.column_turns.specs.Ready.{Trying, PlacedIn};
+ghost use Rattle.interval_queue.specs.Ring.{popped, pushed, pushedWords};
+ghost use Rattle.column_search.specs.Search.{part, upperPart, lowerPart};
+ghost use Rattle.column_turns.specs.Lent.{tableOf, ringOf, Enough, RestKept};
+ghost use Rattle.column_turns.specs.Promise.{Searching, ColumnSearched};
+ghost use Rattle.column_turns.specs.Ready.{Became, Trying, PlacedIn};
+ghost use Rattle.column_turns.specs.Parts.{PartsWaiting, Pushing, Queued, QueuedAfter, partsQueued};
+ghost use Rattle.column_turns.specs.Course.{AttemptedAt, Attempting, IntervalTried, Turning, Turned, Opened};
+ghost use Rattle.basics.specs.Lent.{before, after};
 
 // The first interval that waits.
 fn next_interval(rows: usize, queue: Queue, scratch: &[u32]) -> Popped
     requires { ⌜ Enough rows (now scratch) ⌝ }
-    ensures { λ r. ⌜ r ≡ popped (ringOf rows (now (scratch .entry))) queue ⌝ }
+    ensures { λ r. ⌜ r ≡ popped (ringOf rows (before scratch)) queue ⌝ }
 {
     let from = RING * rows;
     let to = MARKS * rows;
@@ -53,8 +54,8 @@ fn next_interval(rows: usize, queue: Queue, scratch: &[u32]) -> Popped
 // One interval more.
 fn add_interval(rows: usize, queue: Queue, bound: Bound, scratch: &mut [u32]) -> Queue
     requires { ⌜ Enough rows (now scratch) ⌝ }
-    ensures { λ r. ⌜ r ≡ pushed (ringOf rows (now (scratch .entry))) queue ⌝ }
-    ensures lent { λ _. ⌜ Became rows (now (scratch .entry)) (now (scratch .exit)) (tableOf rows (now (scratch .entry))) (pushedWords (ringOf rows (now (scratch .entry))) queue bound) ⌝ }
+    ensures { λ r. ⌜ r ≡ pushed (ringOf rows (before scratch)) queue ⌝ }
+    ensures lent { λ _. ⌜ Became rows (before scratch) (after scratch) (tableOf rows (before scratch)) (pushedWords (ringOf rows (before scratch)) queue bound) ⌝ }
 {
     let from = RING * rows;
     let to = MARKS * rows;
@@ -64,8 +65,7 @@ fn add_interval(rows: usize, queue: Queue, bound: Bound, scratch: &mut [u32]) ->
 // A part is queued if it is not empty.
 fn queue_part(rows: usize, queue: Queue, bound: Bound, scratch: &mut [u32]) -> Queue
     requires { ⌜ Pushing rows (now scratch) queue bound ⌝ }
-    ensures { λ r. ⌜ Queued rows (now (scratch .entry)) (now (scratch .exit)) queue r (part bound) ⌝ }
-    ensures lent { λ _. ⌜ Became rows (now (scratch .entry)) (now (scratch .exit)) (tableOf rows (now (scratch .entry))) (ringOf rows (now (scratch .exit))) ⌝ }
+    ensures { λ r. ⌜ Queued rows (before scratch) (after scratch) queue r (part bound) ⌝ }
 {
     if bound.first <= bound.last {
         return add_interval(rows, queue, bound, scratch);
@@ -111,8 +111,7 @@ fn queue_parts(
     scratch: &mut [u32],
 ) -> Queue
     requires { ⌜ PartsWaiting rows (now places) zeros bound cut queue (now scratch) ⌝ }
-    ensures { λ r. ⌜ Queued rows (now (scratch .entry)) (now (scratch .exit)) queue r (partsQueued (now (places .entry)) (reach .gap) (reach .small) zeros (reach .excess) cut bound) ⌝ }
-    ensures lent { λ _. ⌜ Became rows (now (scratch .entry)) (now (scratch .exit)) (tableOf rows (now (scratch .entry))) (ringOf rows (now (scratch .exit))) ⌝ }
+    ensures { λ r. ⌜ Queued rows (before scratch) (after scratch) queue r (partsQueued (before places) (reach .gap) (reach .small) zeros (reach .excess) cut bound) ⌝ }
 {
     if bound.first == bound.last {
         return queue;
@@ -145,9 +144,7 @@ fn next_queue(
     scratch: &mut [u32],
 ) -> Queue
     requires { ⌜ PartsWaiting rows (now places) zeros bound cut queue (now scratch) ⌝ }
-    ensures { λ r. ⌜ contents (ringOf rows (now (scratch .exit))) r ≡ pick over [] (contents (ringOf rows (now (scratch .entry))) queue ++ partsQueued (now (places .entry)) (reach .gap) (reach .small) zeros (reach .excess) cut bound) ⌝ }
-    ensures sane { λ r. ⌜ Sane (ringOf rows (now (scratch .exit))) r ⌝ }
-    ensures lent { λ _. ⌜ Became rows (now (scratch .entry)) (now (scratch .exit)) (tableOf rows (now (scratch .entry))) (ringOf rows (now (scratch .exit))) ⌝ }
+    ensures { λ r. ⌜ QueuedAfter rows (before places) reach zeros over bound cut queue (before scratch) r (after scratch) ⌝ }
 {
     if over {
         return Queue {
@@ -169,7 +166,7 @@ fn keep_errors(
 ) -> Zeros
     requires { ⌜ Enough rows (now scratch) ⌝ }
     ensures { λ r. ⌜ r ≡ zerosAfter zeros cut left right ⌝ }
-    ensures lent { λ _. ⌜ Became rows (now (scratch .entry)) (now (scratch .exit)) (recordedAfter (tableOf rows (now (scratch .entry))) cut left right) (ringOf rows (now (scratch .entry))) ⌝ }
+    ensures lent { λ _. ⌜ Became rows (before scratch) (after scratch) (recordedAfter (tableOf rows (before scratch)) cut left right) (ringOf rows (before scratch)) ⌝ }
 {
     let end = RING * rows;
     interval_pruner::add_result(&mut scratch[..end], zeros, cut, left, right)
@@ -180,7 +177,7 @@ fn keep_errors(
 // The places of a column's cuts.
 fn places_of<'a>(size: Size, cuts: &'a [u16], counts: &[u16], column: usize) -> &'a [u16]
     requires { ⌜ PlacedIn size (now cuts) (now counts) column ⌝ }
-    ensures { λ r. ⌜ ((values : List Float) (codes order : List ℕ) → now r ≡ placesOf (sheetOf size values codes order (now (cuts .entry)) (now (counts .entry))) column) ⌝ }
+    ensures { λ r. ⌜ ((values : List Float) (codes order : List ℕ) → now r ≡ placesOf (sheetOf size values codes order (before cuts) (before counts)) column) ⌝ }
 {
     let base = column * size.rows;
     let end = base + wide_entry(counts[column]);
@@ -219,10 +216,10 @@ fn try_and_keep(
     scratch: &mut [u32],
 ) -> Attempt
     requires { ⌜ Trying size (now values) (now codes) (now order) (now cuts) (at .column) (at .cut) (now scratch) ⌝ }
-    ensures { λ r. ⌜ ((counts : List ℕ) → Attempted (sheetOf size (now (values .entry)) (now (codes .entry)) (now (order .entry)) (now (cuts .entry)) counts) support (at .column) (at .cut) zeros (now (scratch .entry)) (now (scratch .exit)) r) ⌝ }
+    ensures { λ r. ⌜ AttemptedAt size (before values) (before codes) (before order) (before cuts) support at zeros (before scratch) r (after scratch) ⌝ }
 {
     let rows = size.rows;
-    let tree = crate::cut_try::try_cut(
+    let tree = try_cut(
         size,
         support,
         values,
@@ -239,8 +236,8 @@ fn try_and_keep(
         rows,
         zeros,
         at.cut,
-        crate::cut_try::side_error(left),
-        crate::cut_try::side_error(right),
+        side_error(left),
+        side_error(right),
         scratch,
     );
     Attempt { tree, zeros: marks }
@@ -261,8 +258,7 @@ fn try_interval(
     scratch: &mut [u32],
 ) -> Course
     requires { ⌜ Attempting (sheetOf size (now values) (now codes) (now order) (now cuts) (now counts)) terms column (now scratch) course bound ⌝ }
-    ensures { λ r. ⌜ ((p : Standing) (state : State) → Matches (sheetOf size (now (values .entry)) (now (codes .entry)) (now (order .entry)) (now (cuts .entry)) (now (counts .entry))) terms column p (now (scratch .entry)) course state → Matches (sheetOf size (now (values .entry)) (now (codes .entry)) (now (order .entry)) (now (cuts .entry)) (now (counts .entry))) terms column p (now (scratch .exit)) r (tryCut (searchedColumn (sheetOf size (now (values .entry)) (now (codes .entry)) (now (order .entry)) (now (cuts .entry)) (now (counts .entry))) terms column) (terms .bound) state (state .queue) bound)) ⌝ }
-    ensures lent { λ r. ⌜ Became (size .rows) (now (scratch .entry)) (now (scratch .exit)) (tableOf (size .rows) (now (scratch .exit))) (ringOf (size .rows) (now (scratch .exit))) ⌝ }
+    ensures { λ r. ⌜ IntervalTried (sheetOf size (before values) (before codes) (before order) (before cuts) (before counts)) terms column course bound (before scratch) r (after scratch) ⌝ }
 {
     let rows = size.rows;
     let was = course.zeros;
@@ -274,9 +270,9 @@ fn try_interval(
     let tried = try_and_keep(size, support, values, codes, order, cuts, at, was, scratch);
     let tree = tried.tree;
     let zeros = tried.zeros;
-    let next = crate::interval_steps::improved(standing, tree);
-    let over = crate::interval_steps::ends_column(tree.error, standing.error);
-    let reach = crate::interval_steps::reach_of(terms, tree.error, next.error);
+    let next = improved(standing, tree);
+    let over = ends_column(tree.error, standing.error);
+    let reach = reach_of(terms, tree.error, next.error);
     let places = places_of(size, cuts, counts, column);
     let waiting = next_queue(rows, places, reach, zeros, over, bound, cut, queue, scratch);
     Course {
@@ -286,8 +282,8 @@ fn try_interval(
     }
 }
 
-// Steps 3 to 5 of what is left of an interval, if anything is.
-fn try_shrunk(
+// One interval: steps 1 to 5.
+fn turn(
     size: Size,
     terms: Terms,
     values: &[f64],
@@ -296,15 +292,21 @@ fn try_shrunk(
     cuts: &[u16],
     counts: &[u16],
     column: usize,
-    course: Course,
-    shrunk: Shrunk,
+    mut course: Course,
     scratch: &mut [u32],
 ) -> Course
-    requires { ⌜ IfTo (Attempting (sheetOf size (now values) (now codes) (now order) (now cuts) (now counts)) terms column (now scratch) course) shrunk ⌝ }
-    ensures { λ r. ⌜ ((p : Standing) (state : State) → Matches (sheetOf size (now (values .entry)) (now (codes .entry)) (now (order .entry)) (now (cuts .entry)) (now (counts .entry))) terms column p (now (scratch .entry)) course state → Matches (sheetOf size (now (values .entry)) (now (codes .entry)) (now (order .entry)) (now (cuts .entry)) (now (counts .entry))) terms column p (now (scratch .exit)) r (afterShrink (searchedColumn (sheetOf size (now (values .entry)) (now (codes .entry)) (now (order .entry)) (now (cuts .entry)) (now (counts .entry))) terms column) (terms .bound) state (state .queue) shrunk)) ⌝ }
-    ensures lent { λ r. ⌜ Became (size .rows) (now (scratch .entry)) (now (scratch .exit)) (tableOf (size .rows) (now (scratch .exit))) (ringOf (size .rows) (now (scratch .exit))) ⌝ }
+    requires { ⌜ Turning (sheetOf size (now values) (now codes) (now order) (now cuts) (now counts)) terms column (now scratch) course ⌝ }
+    ensures { λ r. ⌜ Turned (sheetOf size (before values) (before codes) (before order) (before cuts) (before counts)) terms column course (before scratch) r (after scratch) ⌝ }
 {
-    let Shrunk::To(left) = shrunk else {
+    let zeros = course.zeros;
+    let error = course.standing.error;
+    let popped = next_interval(size.rows, course.queue, scratch);
+    let bound = popped.bound;
+    let places = places_of(size, cuts, counts, column);
+    let pruned = prune(size.rows, terms, places, zeros, bound, error, scratch);
+    let others = popped.queue;
+    course.queue = others;
+    let Shrunk::To(left) = pruned else {
         return course;
     };
     try_interval(
@@ -322,55 +324,6 @@ fn try_shrunk(
     )
 }
 
-// One interval: steps 1 to 5.
-fn turn(
-    size: Size,
-    terms: Terms,
-    values: &[f64],
-    codes: &[u8],
-    order: &[u16],
-    cuts: &[u16],
-    counts: &[u16],
-    column: usize,
-    mut course: Course,
-    scratch: &mut [u32],
-) -> Course
-    requires { ⌜ Turning (sheetOf size (now values) (now codes) (now order) (now cuts) (now counts)) terms column (now scratch) course ⌝ }
-    ensures { λ r. ⌜ ((p : Standing) → Stands (sheetOf size (now (values .entry)) (now (codes .entry)) (now (order .entry)) (now (cuts .entry)) (now (counts .entry))) terms column p (now (scratch .entry)) course → Stands (sheetOf size (now (values .entry)) (now (codes .entry)) (now (order .entry)) (now (cuts .entry)) (now (counts .entry))) terms column p (now (scratch .exit)) r) ⌝ }
-    ensures lighter { λ r. ⌜ total weight (contents (ringOf (size .rows) (now (scratch .exit))) (r .queue)) < total weight (contents (ringOf (size .rows) (now (scratch .entry))) (course .queue)) ⌝ }
-    ensures lent { λ r. ⌜ Became (size .rows) (now (scratch .entry)) (now (scratch .exit)) (tableOf (size .rows) (now (scratch .exit))) (ringOf (size .rows) (now (scratch .exit))) ⌝ }
-{
-    let zeros = course.zeros;
-    let error = course.standing.error;
-    let popped = next_interval(size.rows, course.queue, scratch);
-    let bound = popped.bound;
-    let places = places_of(size, cuts, counts, column);
-    let pruned = crate::interval_steps::prune(
-        size.rows,
-        terms,
-        places,
-        zeros,
-        bound,
-        error,
-        scratch,
-    );
-    let others = popped.queue;
-    course.queue = others;
-    try_shrunk(
-        size,
-        terms,
-        values,
-        codes,
-        order,
-        cuts,
-        counts,
-        column,
-        course,
-        pruned,
-        scratch,
-    )
-}
-
 // ---- a column
 
 // One interval waits, the feasible cuts.
@@ -382,8 +335,8 @@ fn begin_column(
     scratch: &mut [u32],
 ) -> Course
     requires { ⌜ Enough rows (now scratch) × (first ≤ last) × (last < mostRows) ⌝ }
-    ensures { λ r. ⌜ Opened rows (now (scratch .exit)) first last standing r ⌝ }
-    ensures lent { λ _. ⌜ Became rows (now (scratch .entry)) (now (scratch .exit)) (tableOf rows (now (scratch .exit))) (ringOf rows (now (scratch .exit))) ⌝ }
+    ensures { λ r. ⌜ Opened rows (after scratch) first last standing r ⌝ }
+    ensures lent { λ _. ⌜ RestKept rows (before scratch) (after scratch) ⌝ }
 {
     let all = Bound {
         first,
@@ -407,8 +360,8 @@ fn begin_column(
     }
 }
 
-// The run of a column whose feasible cuts are numbered from first to last.
-fn run_column(
+// One column's search: turn by turn, from the one interval of its feasible cuts, until nothing waits.
+pub fn search_column(
     size: Size,
     terms: Terms,
     values: &[f64],
@@ -417,16 +370,18 @@ fn run_column(
     cuts: &[u16],
     counts: &[u16],
     column: usize,
-    first: usize,
-    last: usize,
     standing: Standing,
     scratch: &mut [u32],
 ) -> Standing
-    requires { ⌜ Entering (sheetOf size (now values) (now codes) (now order) (now cuts) (now counts)) terms column first last standing (now scratch) ⌝ }
-    ensures { λ r. ⌜ r ≡ standingAfter (sheetOf size (now (values .entry)) (now (codes .entry)) (now (order .entry)) (now (cuts .entry)) (now (counts .entry))) (terms .support) column standing (columnRun (searchedColumn (sheetOf size (now (values .entry)) (now (codes .entry)) (now (order .entry)) (now (cuts .entry)) (now (counts .entry))) terms column) (terms .bound) first last (standing .error)) ⌝ }
-    ensures lent { λ _. ⌜ Became (size .rows) (now (scratch .entry)) (now (scratch .exit)) (tableOf (size .rows) (now (scratch .exit))) (ringOf (size .rows) (now (scratch .exit))) ⌝ }
+    requires { ⌜ Searching (sheetOf size (now values) (now codes) (now order) (now cuts) (now counts)) column standing (now scratch) ⌝ }
+    ensures { λ r. ⌜ ColumnSearched (sheetOf size (before values) (before codes) (before order) (before cuts) (before counts)) terms column standing (before scratch) r (after scratch) ⌝ }
 {
-    let mut course = begin_column(size.rows, first, last, standing, scratch);
+    let places = places_of(size, cuts, counts, column);
+    let run = support_feasible_splits(places, size.rows, wide_word(terms.support));
+    if run.end <= run.first {
+        return standing;
+    }
+    let mut course = begin_column(size.rows, run.first, run.end - 1, standing, scratch);
     while 0 < course.queue.waiting {
         course = turn(
             size,
@@ -442,42 +397,4 @@ fn run_column(
         );
     }
     course.standing
-}
-
-// One column's search.
-pub fn search_column(
-    size: Size,
-    terms: Terms,
-    values: &[f64],
-    codes: &[u8],
-    order: &[u16],
-    cuts: &[u16],
-    counts: &[u16],
-    column: usize,
-    standing: Standing,
-    scratch: &mut [u32],
-) -> Standing
-    requires { ⌜ Searching (sheetOf size (now values) (now codes) (now order) (now cuts) (now counts)) column standing (now scratch) ⌝ }
-    ensures { λ r. ⌜ r ≡ columnAfter (sheetOf size (now (values .entry)) (now (codes .entry)) (now (order .entry)) (now (cuts .entry)) (now (counts .entry))) terms column standing ⌝ }
-    ensures lent { λ _. ⌜ Became (size .rows) (now (scratch .entry)) (now (scratch .exit)) (tableOf (size .rows) (now (scratch .exit))) (ringOf (size .rows) (now (scratch .exit))) ⌝ }
-{
-    let places = places_of(size, cuts, counts, column);
-    let run = support_feasible_splits(places, size.rows, wide_word(terms.support));
-    if run.end <= run.first {
-        return standing;
-    }
-    run_column(
-        size,
-        terms,
-        values,
-        codes,
-        order,
-        cuts,
-        counts,
-        column,
-        run.first,
-        run.end - 1,
-        standing,
-        scratch,
-    )
 }

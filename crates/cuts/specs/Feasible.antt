@@ -1,4 +1,4 @@
--- "Feasible cuts leave max(support, 1) rows on each side; none if rows are fewer than twice that." Definitions only.
+-- For a signer. "Feasible cuts leave max(support, 1) rows on each side; none if rows are fewer than twice that." Definitions only.
 use mathlib.Core.Path.{_≡_}
 use Prim.Native.Nat.{ℕ, _+_, _*_, _≤_, _<_, max}
 use mathlib.Core.Bool.{Bool, _&&_}

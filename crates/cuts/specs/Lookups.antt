@@ -1,5 +1,5 @@
--- Lookups in one column's cut list, by a plain walk: the first cut placed at or above a value, the first cut placed above it.
--- A cut is named by its number, from 0; `places` has the cuts' places, each as many as the rows before the cut. Definitions only.
+-- For a signer. Lookups in one column's cut list, by a plain walk: the first cut placed at or above a value, the first cut placed above it. A
+-- cut is named by its number, from 0; `places` has the cuts' places, each as many as the rows before the cut. Definitions only.
 use mathlib.Core.Path.{_≡_}
 use Prim.Native.Nat.{ℕ, suc, _-_, _≤_, _<_, _^_, min, max}
 use mathlib.Core.Bool.{Bool}

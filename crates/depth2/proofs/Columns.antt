@@ -14,18 +14,16 @@ use Rattle.column_search.specs.Laws.{Lowered}
 use Rattle.column_search.proofs.Count.{tries}
 use Rattle.column_search.proofs.Error.{lowers}
 use Rattle.column_turns.specs.declared.interval_steps.Standing.{Standing}
-use Rattle.column_turns.specs.Ready.{Whole}
+use Rattle.column_turns.specs.Promise.{Whole, mostTries, heldAfter, standingAfterRun, feasibleAt, firstAt, lastAt, standingAfterColumn}
 use Rattle.column_turns.specs.Try.{searchedColumn}
-use Rattle.depth2.specs.Search.{Progress, cutAfter, withColumn, afterColumn, searchColumns, searched}
-use Rattle.column_turns.specs.Steps.{mostTries}
-use Rattle.column_turns.specs.Course.{heldAfter, standingAfter, feasibleAt, firstAt, lastAt, columnAfter}
+use Rattle.depth2.specs.Search.{Progress, cutAfter, withColumn, progressAfterColumn, searchColumns, searched}
 use Rattle.depth2.specs.Columns.{heldOf, standingOf, noneTried, BetweenColumns}
 use Rattle.column_turns.proofs.Turns.{feasible-cuts, end-listed}
 
 module _ (s : Sheet) (t : Terms) (c : ℕ) (whole : Whole s) (here : c < s .columns) where
   -- at most so many tries in a column
-  pub column-few : (p : Standing) → columnAfter s t c p .tried ≤ p .tried + mostTries
-  unfolding columnAfter standingAfter columnRun
+  pub column-few : (p : Standing) → standingAfterColumn s t c p .tried ≤ p .tried + mostTries
+  unfolding standingAfterColumn standingAfterRun columnRun
   column-few p =
       by-ltb (λ (z : Standing). z .tried ≤ p .tried + mostTries) (firstAt s t c) (feasibleAt s t c .end)
       (λ some. omega (
@@ -48,8 +46,8 @@ module _ (s : Sheet) (t : Terms) (c : ℕ) (whole : Whole s) (here : c < s .colu
       reach (run .error) error (l .falls) (λ z. sym z)
       (λ h. absurd (subst (Hit (λ k. (firstAt s t c ≤ k) × (k ≤ lastAt s t c) × (run .error ≡ errorOf (searchedColumn s t c) k))) e (l .named h)))
 
-  pub column-joined : (q : Progress) → columnAfter s t c (standingOf s (t .support) q) ≡ standingOf s (t .support) (afterColumn s t c q)
-  unfolding columnAfter afterColumn standingOf standingAfter withColumn
+  pub column-joined : (q : Progress) → standingAfterColumn s t c (standingOf s (t .support) q) ≡ standingOf s (t .support) (progressAfterColumn s t c q)
+  unfolding standingAfterColumn progressAfterColumn standingOf standingAfterRun withColumn
   column-joined q =
       decide (ltb (firstAt s t c) (feasibleAt s t c .end))
       (λ y.
@@ -66,13 +64,13 @@ module _ (s : Sheet) (t : Terms) (c : ℕ) (whole : Whole s) (here : c < s .colu
 -- one column of the definition's
 pub columns-next : (s : Sheet) (t : Terms) (n c : ℕ) (q : Progress) → c < n
     → searchColumns s t (n - c) c q
-    ≡ pick (leb (afterColumn s t c q .error) (t .gap)) (afterColumn s t c q) (searchColumns s t (n - (c + 1)) (c + 1) (afterColumn s t c q))
+    ≡ pick (leb (progressAfterColumn s t c q .error) (t .gap)) (progressAfterColumn s t c q) (searchColumns s t (n - (c + 1)) (c + 1) (progressAfterColumn s t c q))
 unfolding searchColumns
 columns-next s t n c q h =
     let a : n - c ≡ suc (n - (c + 1)) = omega arith in
     let b : suc c ≡ c + 1 = omega arith in
     ap (λ (k : ℕ). searchColumns s t k c q) a
-    ∙ ap (λ (k : ℕ). pick (leb (afterColumn s t c q .error) (t .gap)) (afterColumn s t c q) (searchColumns s t (n - (c + 1)) k (afterColumn s t c q))) b
+    ∙ ap (λ (k : ℕ). pick (leb (progressAfterColumn s t c q .error) (t .gap)) (progressAfterColumn s t c q) (searchColumns s t (n - (c + 1)) k (progressAfterColumn s t c q))) b
 
 pub between-start : (s : Sheet) (t : Terms) → BetweenColumns s t 0 (noneTried (t .error))
 unfolding standingOf heldOf searched
@@ -86,16 +84,16 @@ between-start s t =
     }
 
 module _ (s : Sheet) (t : Terms) (c : ℕ) (p : Standing) (whole : Whole s) (here : c < s .columns) (between : BetweenColumns s t c p) where
-  after-is : columnAfter s t c p ≡ standingOf s (t .support) (afterColumn s t c (between .progress))
-  after-is = ap (columnAfter s t c) (between .standing-is) ∙ column-joined s t c whole here (between .progress)
+  after-is : standingAfterColumn s t c p ≡ standingOf s (t .support) (progressAfterColumn s t c (between .progress))
+  after-is = ap (standingAfterColumn s t c) (between .standing-is) ∙ column-joined s t c whole here (between .progress)
 
-  error-after : columnAfter s t c p .error ≡ afterColumn s t c (between .progress) .error
+  error-after : standingAfterColumn s t c p .error ≡ progressAfterColumn s t c (between .progress) .error
   unfolding standingOf
   error-after = ap (λ (z : Standing). z .error) after-is
 
-  pub between-next : t .gap < columnAfter s t c p .error → BetweenColumns s t (c + 1) (columnAfter s t c p)
+  pub between-next : t .gap < standingAfterColumn s t c p .error → BetweenColumns s t (c + 1) (standingAfterColumn s t c p)
   between-next h =
-      let next : Progress = afterColumn s t c (between .progress) in
+      let next : Progress = progressAfterColumn s t c (between .progress) in
       record {
         progress = next;
         standing-is = after-is;
@@ -107,9 +105,9 @@ module _ (s : Sheet) (t : Terms) (c : ℕ) (p : Standing) (whole : Whole s) (her
       }
 
   -- "After a column, stop if the error is at most the gap."
-  pub between-stop : columnAfter s t c p .error ≤ t .gap → columnAfter s t c p ≡ standingOf s (t .support) (searched s t)
+  pub between-stop : standingAfterColumn s t c p .error ≤ t .gap → standingAfterColumn s t c p ≡ standingOf s (t .support) (searched s t)
   between-stop h =
-      let next : Progress = afterColumn s t c (between .progress) in
+      let next : Progress = progressAfterColumn s t c (between .progress) in
       after-is
       ∙ ap (standingOf s (t .support))
       (sym (pick-true (leb (next .error) (t .gap)) next _ (le→leb (next .error) (t .gap) (omega (arith, error-after))))

@@ -13,13 +13,12 @@ use Rattle.column_search.specs.Search.{State, columnRun, triesOf}
 use Rattle.column_search.specs.Laws.{Lowered}
 use Rattle.column_search.proofs.Count.{tries}
 use Rattle.column_search.proofs.Error.{lowers}
-use Rattle.column_turns.specs.Ready.{Whole}
+use Rattle.column_turns.specs.Promise.{Whole, feasibleAt, firstAt, lastAt}
 use Rattle.leaves_score.specs.Root.{errorsAt}
 use Rattle.tree.specs.declared.Tree.{Tree}
 use Rattle.tree.specs.Answer.{sideError, ruleOf}
 use Rattle.column_turns.specs.Try.{searchedColumn, treeAt}
-use Rattle.depth2.specs.Search.{Progress, cutAfter, withColumn, afterColumn, searchColumns, searched, answerHolding}
-use Rattle.column_turns.specs.Course.{feasibleAt, firstAt, lastAt}
+use Rattle.depth2.specs.Search.{Progress, cutAfter, withColumn, progressAfterColumn, searchColumns, searched, answerHolding}
 use Rattle.depth2.specs.Laws.{feasibleCount, mostTried, TriesSummed, MakesError, Bettered, ErrorFalls, FoundExactly, SearchesCoincide}
 use Rattle.column_turns.proofs.Turns.{feasible-cuts}
 use Rattle.column_turns.proofs.Places.{places-count}
@@ -27,8 +26,8 @@ use Rattle.column_turns.proofs.Places.{places-count}
 module _ (s : Sheet) (t : Terms) (whole : Whole s) where
   -- ---- tries
 
-  column-tries : (c : ℕ) → c < s .columns → (p : Progress) → afterColumn s t c p .tried ≤ p .tried + (2 * feasibleCount s t c - 1)
-  unfolding afterColumn withColumn columnRun
+  column-tries : (c : ℕ) → c < s .columns → (p : Progress) → progressAfterColumn s t c p .tried ≤ p .tried + (2 * feasibleCount s t c - 1)
+  unfolding progressAfterColumn withColumn columnRun
   column-tries c here p =
       by-ltb (λ (z : Progress). z .tried ≤ p .tried + (2 * feasibleCount s t c - 1)) (firstAt s t c) (feasibleAt s t c .end)
       (λ some. omega (
@@ -41,7 +40,7 @@ module _ (s : Sheet) (t : Terms) (whole : Whole s) where
   unfolding searchColumns mostTried
   columns-tries zero c p h = omega arith
   columns-tries (suc n) c p h =
-      let next : Progress = afterColumn s t c p in
+      let next : Progress = progressAfterColumn s t c p in
       let one = column-tries c (omega arith) p in
       decide (leb (next .error) (t .gap))
       (λ y. omega (
@@ -88,8 +87,8 @@ module _ (s : Sheet) (t : Terms) (whole : Whole s) where
         let is : MakesError s t (run .error) (c, k) = found-error c here filled run k (subst (Hit (Best c run)) e (l .named h)) in
         record { falls = omega (arith, b .falls); named = λ _. is; stays = λ g. absurd (omega (arith, b .falls)) }
 
-    column-bettered : (c : ℕ) → c < s .columns → (p : Progress) → Bettered s t error p → Bettered s t error (afterColumn s t c p)
-    unfolding afterColumn withColumn
+    column-bettered : (c : ℕ) → c < s .columns → (p : Progress) → Bettered s t error p → Bettered s t error (progressAfterColumn s t c p)
+    unfolding progressAfterColumn withColumn
     column-bettered c here p b =
         by-ltb (Bettered s t error) (firstAt s t c) (feasibleAt s t c .end)
         (λ some.
@@ -102,7 +101,7 @@ module _ (s : Sheet) (t : Terms) (whole : Whole s) where
     unfolding searchColumns
     columns-bettered zero c p h b = b
     columns-bettered (suc n) c p h b =
-        let next : Progress = afterColumn s t c p in
+        let next : Progress = progressAfterColumn s t c p in
         let one : Bettered s t error next = column-bettered c (omega arith) p b in
         by-test (Bettered s t error) (leb (next .error) (t .gap)) (λ _. one) (λ _. columns-bettered n (suc c) next (omega arith) one)
 
@@ -137,4 +136,4 @@ found-exactly s t whole =
     }
 
 pub outcomes-coincide : SearchesCoincide
-outcomes-coincide s t scratch a b after others p q = (p .answer-is ∙ sym (q .answer-is), p .lent ∙ sym (q .lent))
+outcomes-coincide size t values codes order cuts counts scratch a b after other p q = (p .answers ∙ sym (q .answers), p .words ∙ sym (q .words))

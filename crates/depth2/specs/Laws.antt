@@ -1,20 +1,21 @@
--- What holds of the search of an accepted sheet, as statements; `proofs/` proves each.
+-- For a signer. What holds of the search of an accepted sheet, as statements; `proofs/` proves each.
 use mathlib.Core.Path.{_≡_}
 use Prim.Native.Nat.{ℕ, zero, suc, _+_, _-_, _*_, _≤_, _<_}
 use mathlib.Core.Option.{Option, none}
 use mathlib.Core.List.{List}
-use lib.ListN.{length}
+use lib.Ieee.{Float}
 use Rattle.basics.specs.Choice.{pick, Hit}
 use lib.Dec.{leb}
+use Rattle.sheet.specs.declared.Size.{Size}
 use Rattle.sheet.specs.declared.Terms.{Terms}
 use Rattle.sheet.specs.Sheet.{Sheet, countOf}
 use Rattle.tree.specs.declared.Tree.{Tree}
 use Rattle.tree.specs.declared.Answer.{Answer}
 use Rattle.tree.specs.Answer.{sideError, ruleOf}
 use Rattle.leaves_score.specs.Root.{errorsAt}
-use Rattle.column_turns.specs.Ready.{Whole}
-use Rattle.depth2.specs.Search.{Progress, afterColumn, searched, answerHolding, searchOf, scratchOf}
-use Rattle.column_turns.specs.Course.{feasibleAt}
+use Rattle.column_turns.specs.Promise.{Whole, feasibleAt}
+use Rattle.depth2.specs.Search.{Progress, progressAfterColumn, searched, answerHolding}
+use Rattle.depth2.specs.Promise.{SearchedOf}
 
 -- f, the number of feasible cuts of column c
 abbrev pub feasibleCount : Sheet → Terms → ℕ → ℕ
@@ -24,7 +25,7 @@ feasibleCount s t c = feasibleAt s t c .end - feasibleAt s t c .first
 unfoldable pub mostTried : Sheet → Terms → ℕ → ℕ → Progress → ℕ
 mostTried s t zero c p = 0
 mostTried s t (suc n) c p =
-    let next : Progress = afterColumn s t c p in
+    let next : Progress = progressAfterColumn s t c p in
     let rest : ℕ = mostTried s t n (suc c) next in
     2 * feasibleCount s t c - 1 + pick (leb (next .error) (t .gap)) 0 rest
 
@@ -59,13 +60,9 @@ pub record FoundIf (s : Sheet) (t : Terms) (p : Progress) (rule : Option Tree) :
 abbrev pub FoundExactly : Type 0
 FoundExactly = (s : Sheet) (t : Terms) → Whole s → let p : Progress = searched s t in FoundIf s t p (ruleOf (answerHolding s t p (p .best)))
 
--- what the contract of `search` says of an outcome
-pub record SearchOutcome (s : Sheet) (t : Terms) (scratch : List ℕ) (answer : Answer) (after : List ℕ) : Type 0 where
-  pub answer-is : answer ≡ searchOf s t (length scratch)
-  pub lent : after ≡ scratchOf s t scratch
-
 -- "show that two outcomes fitting the contract coincide"
 abbrev pub SearchesCoincide : Type 0
 SearchesCoincide =
-    (s : Sheet) (t : Terms) (scratch : List ℕ) (a b : Answer) (after other : List ℕ)
-    → SearchOutcome s t scratch a after → SearchOutcome s t scratch b other → (a ≡ b) × (after ≡ other)
+    (size : Size) (t : Terms) (values : List Float) (codes order cuts counts scratch : List ℕ) (a b : Answer) (after other : List ℕ)
+    → SearchedOf size t values codes order cuts counts scratch a after → SearchedOf size t values codes order cuts counts scratch b other
+    → (a ≡ b) × (after ≡ other)

@@ -1,4 +1,4 @@
--- The search of a whole sheet (document 01, "Search"): its columns in order, and what it answers. Definitions only.
+-- For a signer. The search of a whole sheet (document 01, "Search"): its columns in order, and what it answers. Definitions only.
 use Prim.Native.Nat.{ℕ, zero, suc, _+_, _-_}
 use mathlib.Core.Option.{Option, none, some}
 use mathlib.Core.List.{List}
@@ -32,8 +32,8 @@ unfoldable pub withColumn : ℕ → Progress → State → Progress
 withColumn c p run = record { error = run .error; best = cutAfter c (run .best) (p .best); tried = p .tried + triesOf run }
 
 -- "One interval, the feasible cuts' numbers (from 0 in the column's list), is queued": the run of column c, if it has a feasible cut
-unfoldable pub afterColumn : Sheet → Terms → ℕ → Progress → Progress
-afterColumn s t c p =
+unfoldable pub progressAfterColumn : Sheet → Terms → ℕ → Progress → Progress
+progressAfterColumn s t c p =
     let f : Run = feasibleOf (beforeCuts s c) (s .rows) (t .support) in
     pick (ltb (f .first) (f .end)) (withColumn c p (columnRun (searchedColumn s t c) (t .bound) (f .first) (f .end - 1) (p .error))) p
 
@@ -41,7 +41,7 @@ afterColumn s t c p =
 unfoldable pub searchColumns : Sheet → Terms → ℕ → ℕ → Progress → Progress
 searchColumns s t zero c p = p
 searchColumns s t (suc n) c p =
-    let next : Progress = afterColumn s t c p in
+    let next : Progress = progressAfterColumn s t c p in
     let rest : Progress = searchColumns s t n (suc c) next in
     pick (leb (next .error) (t .gap)) next rest
 

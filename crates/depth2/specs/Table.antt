@@ -1,4 +1,4 @@
--- Document 01, "Proved table (T)": one list. Definitions only; `proofs/Table.antt` computes it whole.
+-- For a signer. Document 01, "Proved table (T)": one list. Definitions only; `proofs/Table.antt` computes it whole.
 use mathlib.Core.Path.{_≡_}
 use Prim.Native.Nat.{ℕ, _*_}
 use mathlib.Core.Bool.{false}

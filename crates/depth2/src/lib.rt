@@ -8,11 +8,11 @@ use sheet::WORDS_PER_ROW;
 use tree::Answer;
 ghost use mathlib.Core.Path.{_≡_};
 ghost use Rattle.sheet.specs.Check.{sheetOf};
-ghost use Rattle.depth2.specs.Search.{searched};
+ghost use Rattle.column_turns.specs.Lent.{Enough};
+ghost use Rattle.column_turns.specs.Promise.{Whole};
 ghost use Rattle.depth2.specs.Promise.{SearchedOf};
-ghost use Rattle.column_turns.specs.Lent.{tableOf, ringOf, Enough, Became};
-ghost use Rattle.depth2.specs.Columns.{noneTried, standingOf, answerHeld};
-ghost use Rattle.column_turns.specs.Ready.{Whole};
+ghost use Rattle.depth2.specs.Columns.{noneTried, answerHeld, ColumnsSearched};
+ghost use Rattle.basics.specs.Lent.{before, after};
 
 // ---- the columns
 
@@ -39,8 +39,7 @@ fn search_columns(
     scratch: &mut [u32],
 ) -> Standing
     requires { ⌜ Whole (sheetOf size (now values) (now codes) (now order) (now cuts) (now counts)) × Enough (size .rows) (now scratch) ⌝ }
-    ensures { λ r. ⌜ r ≡ standingOf (sheetOf size (now (values .entry)) (now (codes .entry)) (now (order .entry)) (now (cuts .entry)) (now (counts .entry))) (terms .support) (searched (sheetOf size (now (values .entry)) (now (codes .entry)) (now (order .entry)) (now (cuts .entry)) (now (counts .entry))) terms) ⌝ }
-    ensures lent { λ _. ⌜ Became (size .rows) (now (scratch .entry)) (now (scratch .exit)) (tableOf (size .rows) (now (scratch .exit))) (ringOf (size .rows) (now (scratch .exit))) ⌝ }
+    ensures { λ r. ⌜ ColumnsSearched (sheetOf size (before values) (before codes) (before order) (before cuts) (before counts)) terms (before scratch) r (after scratch) ⌝ }
 {
     let mut standing = nothing_tried(terms.error);
     let mut column: usize = 0;
@@ -90,7 +89,7 @@ pub fn search(
     counts: &[u16],
     scratch: &mut [u32],
 ) -> Answer
-    ensures { λ r. ⌜ SearchedOf size terms (now (values .entry)) (now (codes .entry)) (now (order .entry)) (now (cuts .entry)) (now (counts .entry)) (now (scratch .entry)) r (now (scratch .exit)) ⌝ }
+    ensures { λ r. ⌜ SearchedOf size terms (before values) (before codes) (before order) (before cuts) (before counts) (before scratch) r (after scratch) ⌝ }
 {
     let checked = sheet_check::check(size, terms, values, codes, order, cuts, counts, scratch);
     match checked {

@@ -1,4 +1,4 @@
--- Numbers as text: decimal without a leading zero, and sixteen hex digits. Definitions only.
+-- For a signer. Numbers as text: decimal without a leading zero, and sixteen hex digits. Definitions only.
 use Prim.Native.Nat.{ℕ, zero, suc, _+_, _/_, _%_, _^_}
 use mathlib.Core.List.{List, [], _∷_, _++_}
 use lib.Dec.{ltb}

@@ -1,4 +1,4 @@
--- What written numbers say, as statements; `proofs/` proves each.
+-- For a signer. What written numbers say, as statements; `proofs/` proves each.
 use mathlib.Core.Path.{_≡_}
 use Prim.Native.Nat.{ℕ, _+_, _-_, _*_, _^_, _<_}
 use mathlib.Core.List.{List, [], _∷_}

@@ -1,4 +1,4 @@
--- What a function that writes text into lent memory leaves there. Definitions only.
+-- For a signer. What a function that writes text into lent memory leaves there. Definitions only.
 use mathlib.Core.Path.{_≡_}
 use Prim.Native.Nat.{ℕ, _+_, _≤_}
 use mathlib.Core.List.{List}

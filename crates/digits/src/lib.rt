@@ -5,6 +5,7 @@ ghost use lib.ListN.{length};
 ghost use lib.Ieee.{binary64, toBits};
 ghost use Rattle.digits.specs.Digits.{digitOf, digitsOf, digitsIn, decimalOf, hexOf, mostPlaces, hexPlaces};
 ghost use Rattle.digits.specs.Put.{Put, PutWithin, PutExactly};
+ghost use Rattle.basics.specs.Lent.{before, after};
 
 // The bases of the two ways that a number is written.
 const DECIMAL: u64 = 10;
@@ -42,7 +43,7 @@ fn places(n: u64) -> usize
 
 pub fn put_bytes(out: &mut [u8], at: usize, text: &[u8]) -> usize
     requires { ⌜ at + length (now text) ≤ length (now out) ⌝ }
-    ensures { λ r. ⌜ Put (now (out .entry)) at (now (text .entry)) r (now (out .exit)) ⌝ }
+    ensures { λ r. ⌜ Put (before out) at (before text) r (after out) ⌝ }
 {
     let mut done: usize = 0;
     while done < text.len() {
@@ -55,7 +56,7 @@ pub fn put_bytes(out: &mut [u8], at: usize, text: &[u8]) -> usize
 // From the last digit to the first.
 fn put_digits(out: &mut [u8], at: usize, base: u64, count: usize, n: u64) -> usize
     requires { ⌜ (2 ≤ base) × (base ≤ 16) × (at + count ≤ length (now out)) ⌝ }
-    ensures { λ r. ⌜ Put (now (out .entry)) at (digitsOf base count n) r (now (out .exit)) ⌝ }
+    ensures { λ r. ⌜ Put (before out) at (digitsOf base count n) r (after out) ⌝ }
 {
     let mut left = count;
     let mut rest = n;
@@ -69,14 +70,14 @@ fn put_digits(out: &mut [u8], at: usize, base: u64, count: usize, n: u64) -> usi
 
 pub fn put_decimal(out: &mut [u8], at: usize, n: u64) -> usize
     requires { ⌜ at + mostPlaces ≤ length (now out) ⌝ }
-    ensures { λ r. ⌜ PutWithin (now (out .entry)) at (decimalOf n) mostPlaces r (now (out .exit)) ⌝ }
+    ensures { λ r. ⌜ PutWithin (before out) at (decimalOf n) mostPlaces r (after out) ⌝ }
 {
     put_digits(out, at, DECIMAL, places(n), n)
 }
 
 pub fn put_hex(out: &mut [u8], at: usize, bits: u64) -> usize
     requires { ⌜ at + hexPlaces ≤ length (now out) ⌝ }
-    ensures { λ r. ⌜ PutExactly (now (out .entry)) at (hexOf bits) hexPlaces r (now (out .exit)) ⌝ }
+    ensures { λ r. ⌜ PutExactly (before out) at (hexOf bits) hexPlaces r (after out) ⌝ }
 {
     put_digits(out, at, HEX, HEX_PLACES, bits)
 }

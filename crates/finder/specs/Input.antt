@@ -1,4 +1,4 @@
--- What the program reads. Definitions only.
+-- For a signer. What the program reads. Definitions only.
 use Prim.Native.Nat.{ℕ}
 use Rattle.finder.specs.declared.Input.{Input}
 use Rattle.finder.specs.declared.Input.the-variants.{Bytes, Failed}

@@ -7,6 +7,7 @@ ghost use Rattle.io.specs.Counts.{Counts};
 ghost use Rattle.listing.specs.Listing.{listingOf};
 ghost use Rattle.rule_finder.specs.Run.{runOf};
 ghost use Rattle.finder.specs.Input.{bytesRead};
+ghost use Rattle.basics.specs.Lent.{before, after};
 use libc::STDIN_FILENO;
 use libc::STDOUT_FILENO;
 use listing::LONGEST;
@@ -18,7 +19,7 @@ enum Input {
 }
 
 fn read_input(bytes: &mut [u8]) -> Input
-    ensures { λ r. ⌜ bytesRead r ≤ length (now (bytes .exit)) ⌝ }
+    ensures { λ r. ⌜ bytesRead r ≤ length (after bytes) ⌝ }
 {
     let mut count: usize = 0;
     while count < bytes.len() {
@@ -37,8 +38,8 @@ fn read_input(bytes: &mut [u8]) -> Input
 
 // The answer's text in room for the longest, and its length.
 fn answer(bytes: &[u8], text: &mut [u8; LONGEST]) -> usize
-    ensures within { λ r. ⌜ Counts r (now (text .exit)) ⌝ }
-    ensures said { λ r. ⌜ take r (now (text .exit)) ≡ listingOf (runOf (now (bytes .entry))) ⌝ }
+    ensures within { λ r. ⌜ Counts r (after text) ⌝ }
+    ensures said { λ r. ⌜ take r (after text) ≡ listingOf (runOf (before bytes)) ⌝ }
 {
     rule_finder::run(bytes, text)
 }

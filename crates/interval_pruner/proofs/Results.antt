@@ -1,6 +1,6 @@
 -- What a result leaves behind: the table has the new errors at the cut and the old ones elsewhere, and the marks name cuts that were tried. Assumes nothing.
-use mathlib.Core.Path.{_≡_, sym, _∙_, subst}
-use Prim.Native.Nat.{ℕ, _+_, _*_, _≤_, _<_, max, min}
+use mathlib.Core.Path.{_≡_, _∙_, subst}
+use Prim.Native.Nat.{ℕ, _+_, _*_, _<_, max, min}
 use native.Mathlib.Omega.{arith}
 use mathlib.Core.List.{List}
 use lib.ListN.{length, getD, set, length-set}
@@ -44,30 +44,22 @@ module _ (table : List ℕ) (k left right : ℕ) where
 
 -- ---- the marks
 
+pub max-either : (P : ℕ → Type 0) (a b : ℕ) → P a → P b → P (max a b)
+max-either P a b h g = order a b (λ l. subst P (omega arith) g) (λ l. subst P (omega arith) h)
+
+pub min-either : (P : ℕ → Type 0) (a b : ℕ) → P a → P b → P (min a b)
+min-either P a b h g = order a b (λ l. subst P (omega arith) h) (λ l. subst P (omega arith) g)
+
 module _ (P : ℕ → Type 0) (k : ℕ) (h : P k) where
   highest-held : (t : Tried) → Held P t → Held P (highestZero k t)
   unfolding highestZero
   highest-held Nothing p = h
-  highest-held (Cut z) p =
-      order z k (λ l. subst P (sym (max-right z k l)) h) (λ l. subst P (sym (max-left z k l)) p)
-    where
-      max-right : (a b : ℕ) → a ≤ b → max a b ≡ b
-      max-right a b l = omega arith
-
-      max-left : (a b : ℕ) → b < a → max a b ≡ a
-      max-left a b l = omega arith
+  highest-held (Cut z) p = max-either P z k p h
 
   lowest-held : (t : Tried) → Held P t → Held P (lowestZero k t)
   unfolding lowestZero
   lowest-held Nothing p = h
-  lowest-held (Cut z) p =
-      order z k (λ l. subst P (sym (min-left z k l)) p) (λ l. subst P (sym (min-right z k l)) h)
-    where
-      min-left : (a b : ℕ) → a ≤ b → min a b ≡ a
-      min-left a b l = omega arith
-
-      min-right : (a b : ℕ) → b < a → min a b ≡ b
-      min-right a b l = omega arith
+  lowest-held (Cut z) p = min-either P z k p h
 
   -- what holds of the marked cuts and of the tried one holds of those marked afterwards
   pub left-held : (z : Zeros) (left right : ℕ) → Held P (z .left) → Held P (zerosAfter z k left right .left)

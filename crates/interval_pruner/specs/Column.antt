@@ -1,4 +1,4 @@
--- What the search of one column looks at, and nothing else. Definitions only.
+-- For a signer. What the search of one column looks at, and nothing else. Definitions only.
 use Prim.Native.Nat.{ℕ, _+_, _*_}
 use mathlib.Core.Bool.{Bool}
 use mathlib.Core.List.{List}

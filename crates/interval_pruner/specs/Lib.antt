@@ -1,3 +1,4 @@
 pub mod Column
 pub mod Pruner
 pub mod Promise
+pub mod Steps

@@ -1,5 +1,5 @@
--- What the calls of the pruner promise: of the record of tries, its answer and the lent table; of steps 1, 2 and 5, their answers on the lists that
--- a search hands them. On other lists they end, and their answer is not said.
+-- For a signer. What the calls of the pruner promise: of the record of tries, its answer and the lent table; of steps 1, 2 and 5, their
+-- answers on the lists that a search hands them. On other lists they end, and their answer is not said.
 use mathlib.Core.Path.{_≡_}
 use Prim.Native.Nat.{ℕ}
 use mathlib.Core.Bool.{Bool}

@@ -1,6 +1,7 @@
--- Steps 1, 2 and 5 of document 01's search. `b` is the document's B, the smaller of the current error and the upper bound. Definitions only.
+-- For a signer. Steps 1, 2 and 5 of document 01's search. `b` is the document's B, the smaller of the current error and the upper bound.
+-- Definitions only.
 use Prim.Native.Nat.{ℕ, suc, _+_, _-_, _*_, _<_, min, max}
-use mathlib.Core.Bool.{Bool, true, false, _&&_}
+use mathlib.Core.Bool.{Bool, _&&_}
 use mathlib.Core.List.{List}
 use lib.ListN.{length, set}
 use lib.Dec.{leb, ltb, eqb}
@@ -31,11 +32,6 @@ unfoldable pub lowestZero : ℕ → Tried → Tried
 lowestZero k Nothing = Cut k
 lowestZero k (Cut z) = Cut (min z k)
 
--- the one upwards, the other downwards
-abbrev pub farthest : Bool → ℕ → Tried → Tried
-farthest true = highestZero
-farthest false = lowestZero
-
 -- after a try of cut k with these two errors
 unfoldable pub zerosAfter : Zeros → ℕ → ℕ → ℕ → Zeros
 zerosAfter z k left right =
@@ -47,18 +43,14 @@ recordedAfter table k left right = set (set table (2 * k) left) (2 * k + 1) righ
 
 -- ---- step 1
 
--- "left error at its remembered left cut, or 0", and the right one
-unfoldable pub heldLeft : Column → Tried → ℕ
-heldLeft c Nothing = 0
-heldLeft c (Cut k) = leftError c k
-
-unfoldable pub heldRight : Column → Tried → ℕ
-heldRight c Nothing = 0
-heldRight c (Cut k) = rightError c k
+-- "left error at its remembered left cut, or 0", and so of the right one
+unfoldable pub heldError : (ℕ → ℕ) → Tried → ℕ
+heldError error Nothing = 0
+heldError error (Cut k) = error k
 
 -- "With support ≤ 1, drop it if (..) + (..) + gap ≥ B."
 unfoldable pub hopeless : Column → ℕ → Bound → Bool
-hopeless c b i = c .small && leb b (heldLeft c (i .left) + heldRight c (i .right) + c .gap)
+hopeless c b i = c .small && leb b (heldError (leftError c) (i .left) + heldError (rightError c) (i .right) + c .gap)
 
 -- ---- step 2
 

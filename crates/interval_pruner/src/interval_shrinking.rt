@@ -11,6 +11,7 @@ ghost use Rattle.cuts.specs.Lookups.{Ascending};
 ghost use Rattle.interval_pruner.specs.Column.{recordedColumn};
 ghost use Rattle.interval_pruner.specs.Pruner.{past, short, intervalWithin, startAfter, endAbove, endBefore};
 ghost use Rattle.interval_pruner.specs.Promise.{ShrunkTo};
+ghost use Rattle.basics.specs.Lent.{before};
 
 // The interval from `first` to `last` that remembers what `bound` does, if it is not empty.
 fn between(bound: Bound, first: usize, last: usize) -> Shrunk
@@ -51,8 +52,8 @@ fn between_zeros(zeros: Zeros, bound: Bound) -> Shrunk
 // The cuts near the one remembered on the left are too near to be better.
 fn away_from_left(cuts: &[u16], table: &[u32], bound: Bound, gap: u32, best: u32) -> Shrunk
     ensures { λ r.
-        ⌜ (Ascending (now (cuts .entry)) →
-        r ≡ intervalWithin bound (startAfter (recordedColumn (now (cuts .entry)) (now (table .entry)) gap true) best (bound .left) (bound .first)) (bound .last)) ⌝ }
+        ⌜ (Ascending (before cuts) →
+        r ≡ intervalWithin bound (startAfter (recordedColumn (before cuts) (before table) gap true) best (bound .left) (bound .first)) (bound .last)) ⌝ }
 {
     let first = bound.first;
     let last = bound.last;
@@ -75,8 +76,8 @@ fn away_from_left(cuts: &[u16], table: &[u32], bound: Bound, gap: u32, best: u32
 // The interval up to the first cut placed above `x`.
 fn up_to(cuts: &[u16], bound: Bound, x: usize) -> Shrunk
     ensures { λ r.
-        ⌜ (Ascending (now (cuts .entry)) →
-        r ≡ endAbove (recordedColumn (now (cuts .entry)) [] 0 true) bound x (bound .first) (bound .last)) ⌝ }
+        ⌜ (Ascending (before cuts) →
+        r ≡ endAbove (recordedColumn (before cuts) [] 0 true) bound x (bound .first) (bound .last)) ⌝ }
 {
     let first = bound.first;
     let last = bound.last;
@@ -90,8 +91,8 @@ fn up_to(cuts: &[u16], bound: Bound, x: usize) -> Shrunk
 // The cuts near the one remembered on the right are too near to be better.
 fn away_from_right(cuts: &[u16], table: &[u32], bound: Bound, gap: u32, best: u32) -> Shrunk
     ensures { λ r.
-        ⌜ (Ascending (now (cuts .entry)) →
-        r ≡ endBefore (recordedColumn (now (cuts .entry)) (now (table .entry)) gap true) best (bound .right) bound (bound .first) (bound .last)) ⌝ }
+        ⌜ (Ascending (before cuts) →
+        r ≡ endBefore (recordedColumn (before cuts) (before table) gap true) best (bound .right) bound (bound .first) (bound .last)) ⌝ }
 {
     let right = bound.right;
     match right {
@@ -118,7 +119,7 @@ pub fn interval_shrinking(
     best: u32,
     small: bool,
 ) -> Shrunk
-    ensures { λ r. ⌜ ShrunkTo (now (cuts .entry)) (now (table .entry)) zeros bound gap best small r ⌝ }
+    ensures { λ r. ⌜ ShrunkTo (before cuts) (before table) zeros bound gap best small r ⌝ }
 {
     if small {
         let cleared = between_zeros(zeros, bound);

@@ -9,8 +9,10 @@ ghost use lib.ListN.{getD, set};
 ghost use lib.Dec.{eqb};
 ghost use Rattle.basics.specs.Choice.{pick};
 ghost use Rattle.interval_pruner.specs.Column.{recorded};
-ghost use Rattle.interval_pruner.specs.Pruner.{farthest, recordedAfter, short};
+ghost use Rattle.interval_pruner.specs.Pruner.{recordedAfter, short};
+ghost use Rattle.interval_pruner.specs.Steps.{farthest, errorOn};
 ghost use Rattle.interval_pruner.specs.Promise.{ResultAdded};
+ghost use Rattle.basics.specs.Lent.{before, after};
 use basics::wide_word;
 
 // A tried cut, by its number, if there is one.
@@ -50,7 +52,7 @@ pub struct Parts {
 // ---- what was tried
 
 fn store(table: &mut [u32], i: usize, error: u32)
-    ensures { λ _. ⌜ now (table .exit) ≡ set (now (table .entry)) i error ⌝ }
+    ensures { λ _. ⌜ after table ≡ set (before table) i error ⌝ }
 {
     if i < table.len() {
         table[i] = error;
@@ -59,7 +61,7 @@ fn store(table: &mut [u32], i: usize, error: u32)
 
 // A cut past the table is not stored, and twice its number is not asked for, since that might not fit.
 fn store_both(table: &mut [u32], cut: usize, left: u32, right: u32)
-    ensures { λ _. ⌜ now (table .exit) ≡ recordedAfter (now (table .entry)) cut left right ⌝ }
+    ensures { λ _. ⌜ after table ≡ recordedAfter (before table) cut left right ⌝ }
 {
     if cut < table.len() {
         let at = 2 * cut;
@@ -93,7 +95,7 @@ fn farthest_zero(upwards: bool, mark: Tried, cut: usize, error: u32) -> Tried
 
 // The errors of a tried cut are kept, and the zero marks moved.
 pub fn add_result(table: &mut [u32], zeros: Zeros, cut: usize, left: u32, right: u32) -> Zeros
-    ensures { λ r. ⌜ ResultAdded (now (table .entry)) zeros cut left right r (now (table .exit)) ⌝ }
+    ensures { λ r. ⌜ ResultAdded (before table) zeros cut left right r (after table) ⌝ }
 {
     store_both(table, cut, left, right);
     let low = zeros.left;
@@ -107,7 +109,7 @@ pub fn add_result(table: &mut [u32], zeros: Zeros, cut: usize, left: u32, right:
 // ---- what the steps ask of it
 
 fn at(table: &[u32], i: usize) -> usize
-    ensures { λ r. ⌜ r ≡ getD (now (table .entry)) i 0 ⌝ }
+    ensures { λ r. ⌜ r ≡ getD (before table) i 0 ⌝ }
     ensures fits { λ r. ⌜ r < 2 ^ 32 ⌝ }
 {
     if i < table.len() {
@@ -117,24 +119,13 @@ fn at(table: &[u32], i: usize) -> usize
     }
 }
 
-// A cut past the table is not asked for, as in `store_both`.
-pub(crate) fn left_at(table: &[u32], cut: usize) -> usize
-    ensures { λ r. ⌜ r ≡ recorded (now (table .entry)) cut .0 ⌝ }
+// A cut's right error, else its left one. A cut past the table is not asked for, as in `store_both`.
+pub(crate) fn error_at(table: &[u32], cut: usize, right: bool) -> usize
+    ensures { λ r. ⌜ r ≡ errorOn right (before table) cut ⌝ }
     ensures fits { λ r. ⌜ r < 2 ^ 32 ⌝ }
 {
     if cut < table.len() {
-        at(table, 2 * cut)
-    } else {
-        0
-    }
-}
-
-pub(crate) fn right_at(table: &[u32], cut: usize) -> usize
-    ensures { λ r. ⌜ r ≡ recorded (now (table .entry)) cut .1 ⌝ }
-    ensures fits { λ r. ⌜ r < 2 ^ 32 ⌝ }
-{
-    if cut < table.len() {
-        at(table, 2 * cut + 1)
+        at(table, 2 * cut + basics::one_if(right))
     } else {
         0
     }
@@ -151,8 +142,8 @@ pub(crate) fn short_of(zero: Tried, last: usize) -> usize
 
 // A tried cut's error plus the gap.
 pub(crate) fn sum_at(table: &[u32], cut: usize, gap: u32) -> usize
-    ensures { λ r. ⌜ r ≡ recorded (now (table .entry)) cut .0 + recorded (now (table .entry)) cut .1 + gap ⌝ }
+    ensures { λ r. ⌜ r ≡ recorded (before table) cut .0 + recorded (before table) cut .1 + gap ⌝ }
     ensures fits { λ r. ⌜ r < 3 * 2 ^ 32 ⌝ }
 {
-    left_at(table, cut) + right_at(table, cut) + wide_word(gap)
+    error_at(table, cut, false) + error_at(table, cut, true) + wide_word(gap)
 }

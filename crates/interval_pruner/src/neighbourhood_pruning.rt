@@ -11,6 +11,7 @@ ghost use Rattle.cuts.specs.Lookups.{Ascending};
 ghost use Rattle.interval_pruner.specs.Column.{recordedColumn};
 ghost use Rattle.interval_pruner.specs.Pruner.{past, upperFrom, lowerNear, lowerTo, Held, PartsListed};
 ghost use Rattle.interval_pruner.specs.Promise.{PartedAt};
+ghost use Rattle.basics.specs.Lent.{before};
 
 // The number after a cut's; past a list of `count` cuts there is none to go to.
 fn after(count: usize, cut: usize) -> usize
@@ -33,8 +34,8 @@ fn past_zero(count: usize, zero: Tried, first: usize) -> usize
 fn upper_from(cuts: &[u16], zeros: Zeros, distance: usize, cut: usize, small: bool) -> usize
     requires { ⌜ distance < 2 * 2 ^ 32 ⌝ }
     ensures { λ r.
-        ⌜ (PartsListed (now (cuts .entry)) zeros cut →
-        r ≡ upperFrom (recordedColumn (now (cuts .entry)) [] 0 small) zeros distance cut) ⌝ }
+        ⌜ (PartsListed (before cuts) zeros cut →
+        r ≡ upperFrom (recordedColumn (before cuts) [] 0 small) zeros distance cut) ⌝ }
 {
     let count = cuts.len();
     let next = after(count, cut);
@@ -53,8 +54,8 @@ fn upper_from(cuts: &[u16], zeros: Zeros, distance: usize, cut: usize, small: bo
 fn lower_near(cuts: &[u16], zeros: Zeros, distance: usize, cut: usize, first: usize) -> usize
     requires { ⌜ distance < 2 * 2 ^ 32 ⌝ }
     ensures { λ r.
-        ⌜ (Ascending (now (cuts .entry)) →
-        r ≡ lowerNear (recordedColumn (now (cuts .entry)) [] 0 true) zeros distance cut first) ⌝ }
+        ⌜ (Ascending (before cuts) →
+        r ≡ lowerNear (recordedColumn (before cuts) [] 0 true) zeros distance cut first) ⌝ }
 {
     let x = basics::minus(cuts::place_at(cuts, cut), distance + 1);
     if x < cuts::place_at(cuts, first) {
@@ -76,8 +77,8 @@ fn lower_to(
 ) -> usize
     requires { ⌜ distance < 2 * 2 ^ 32 ⌝ }
     ensures { λ r.
-        ⌜ (Ascending (now (cuts .entry)) →
-        r ≡ lowerTo (recordedColumn (now (cuts .entry)) [] 0 small) zeros distance cut first) ⌝ }
+        ⌜ (Ascending (before cuts) →
+        r ≡ lowerTo (recordedColumn (before cuts) [] 0 small) zeros distance cut first) ⌝ }
 {
     let before = basics::minus(cut, 1);
     if small {
@@ -99,7 +100,7 @@ pub fn neighbourhood_pruning(
     cut: usize,
     small: bool,
 ) -> Parts
-    ensures { λ r. ⌜ PartedAt (now (cuts .entry)) zeros gap excess first cut small r ⌝ }
+    ensures { λ r. ⌜ PartedAt (before cuts) zeros gap excess first cut small r ⌝ }
 {
     let distance = wide_word(excess) + wide_word(gap);
     Parts {

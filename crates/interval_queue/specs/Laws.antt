@@ -1,4 +1,5 @@
--- A queue in good order, and what push and pop do to the list of intervals that wait. Statements only; `proofs/Waiting.antt` proves them.
+-- For a signer. A queue in good order, and what push and pop do to the list of intervals that wait. Statements only; `proofs/Waiting.antt`
+-- proves them.
 use mathlib.Core.Path.{_≡_}
 use Prim.Native.Nat.{ℕ, _≤_, _<_}
 use mathlib.Core.List.{List, [], _∷_, _++_}

@@ -1,4 +1,4 @@
--- "One interval .. is queued, first in first out": the queue as a ring in lent words, four words an interval. Definitions only.
+-- For a signer. "One interval .. is queued, first in first out": the queue as a ring in lent words, four words an interval. Definitions only.
 use mathlib.Core.Path.{_≡_}
 use Prim.Native.Nat.{ℕ, zero, suc, _+_, _-_, _*_, _/_, min}
 use mathlib.Core.Bool.{Bool, _||_}

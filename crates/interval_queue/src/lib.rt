@@ -6,6 +6,7 @@ ghost use mathlib.Core.Path.{_≡_};
 ghost use Prim.Native.Nat.{_+_, _/_, _<_, _≤_};
 ghost use lib.ListN.{length};
 ghost use Rattle.interval_queue.specs.Ring.{slotOf, wordOf, wordOfTried, triedIn, stored, loaded, popped, emptyBound, PushedTo};
+ghost use Rattle.basics.specs.Lent.{before, after};
 
 // Where the first interval stands, and how many wait.
 pub struct Queue {
@@ -78,7 +79,7 @@ fn cut(word: u32) -> Tried
 
 fn store(words: &mut [u32], at: usize, bound: Bound)
     requires { ⌜ at + 4 ≤ length (now words) ⌝ }
-    ensures { λ _. ⌜ now (words .exit) ≡ stored (now (words .entry)) at bound ⌝ }
+    ensures { λ _. ⌜ after words ≡ stored (before words) at bound ⌝ }
 {
     let left = bound.left;
     let right = bound.right;
@@ -90,7 +91,7 @@ fn store(words: &mut [u32], at: usize, bound: Bound)
 
 fn load(words: &[u32], at: usize) -> Bound
     requires { ⌜ at + 4 ≤ length (now words) ⌝ }
-    ensures { λ r. ⌜ r ≡ loaded (now (words .entry)) at ⌝ }
+    ensures { λ r. ⌜ r ≡ loaded (before words) at ⌝ }
 {
     let left = cut(words[at + LEFT]);
     let right = cut(words[at + RIGHT]);
@@ -104,7 +105,7 @@ fn load(words: &[u32], at: usize) -> Bound
 
 // One interval more at the end; a full ring stays as it is.
 pub fn push(words: &mut [u32], queue: Queue, bound: Bound) -> Queue
-    ensures { λ r. ⌜ PushedTo (now (words .entry)) queue bound r (now (words .exit)) ⌝ }
+    ensures { λ r. ⌜ PushedTo (before words) queue bound r (after words) ⌝ }
 {
     let slots = words.len() / WORDS;
     let head = queue.head;
@@ -125,7 +126,7 @@ pub fn push(words: &mut [u32], queue: Queue, bound: Bound) -> Queue
 
 // The first interval off the queue. Where none waits it is an empty interval, and the queue stays as it is.
 pub fn pop(words: &[u32], queue: Queue) -> Popped
-    ensures { λ r. ⌜ r ≡ popped (now (words .entry)) queue ⌝ }
+    ensures { λ r. ⌜ r ≡ popped (before words) queue ⌝ }
 {
     let slots = words.len() / WORDS;
     let head = queue.head;

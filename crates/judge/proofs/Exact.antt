@@ -14,12 +14,13 @@ use lib.Ieee.Scale.{finite}
 use Rattle.basics.specs.Choice.{bit}
 use Rattle.basics.specs.Lists.{tally}
 use Rattle.basics.specs.Walk.{walk}
-use Rattle.basics.proofs.Choice.{by-test, by-ltb, either, order, reach, and-both, or-left, or-right}
+use Rattle.basics.proofs.Choice.{by-test, either, order, and-both, or-left, or-right}
 use Rattle.basics.proofs.Lists.{length-table, tally-parts}
 use Rattle.sheet.specs.Sheet.{Sheet, everyRow}
 use Rattle.sheet.specs.Check.{cellsOf, sizeHolds, badValue, badLabel}
-use Rattle.sheet.proofs.Search.{clean-walk, walk-bad}
-use Rattle.sheet.proofs.Numbered.{None, next, none0}
+use Rattle.sheet.specs.Rows.{sentLeft, rowsAt}
+use Rattle.sheet.specs.Laws.{First}
+use Rattle.sheet.proofs.Numbered.{None, next, none0, first-whole, scanned, same-refusal}
 use Rattle.sheet.proofs.Answer.{limited}
 use Rattle.sheet.proofs.Exact.{size-to, size-from, value-to, value-from, label-to, label-from}
 use Rattle.tree.specs.declared.Side.{Side}
@@ -27,11 +28,10 @@ use Rattle.tree.specs.declared.Side.the-variants.{Leaf, Split}
 use Rattle.tree.specs.declared.Tree.{Tree}
 use Rattle.judge.specs.declared.Verdict.{Verdict}
 use Rattle.judge.specs.declared.Verdict.the-variants.{TurnedBack, Judged}
-use Rattle.judge.specs.Mistakes.{sentLeft, rowsAt, rootLeftward, rootRightward, all, judgementOf}
-use Rattle.judge.specs.Passing.{badColumn}
-use Rattle.judge.specs.Judge.{judgedHolds, badLeaf, badThreshold, badAt, badColumns, badLeaves, badThresholds, back, backFirst, treeChecked, judgeOf}
+use Rattle.judge.specs.Mistakes.{rootLeftward, rootRightward, all, judgementOf}
+use Rattle.judge.specs.Judge.{judgedHolds, badLeaf, badThreshold, badAt, back, backFirst, treeChecked, judgeOf, badColumn}
 use Rattle.judge.specs.Reasons.{places}
-use Rattle.judge.specs.Laws.{JudgeLengths, AsksHigh, LeafAbove, AsksEndless, among, judgeConditions, JudgeCondition, JudgeFirst, JudgeGivenExactly, JudgedExactly, EveryRowCounted}
+use Rattle.judge.specs.Laws.{JudgeLengths, AsksHigh, LeafAbove, AsksEndless, among, judgeConditions, JudgeCondition, JudgeGivenExactly, JudgedExactly, EveryRowCounted}
 use Rattle.judge.proofs.Reasons.{values-length, codes-length, after1, after2, after5, after10, after11}
 
 -- ---- tests and conditions
@@ -107,57 +107,31 @@ module _ (s : Sheet) (t : Tree) where
   abbrev C : ℕ → ℕ → Type 0
   C n p = JudgeCondition s t n p
 
-  abbrev Earlier : ℕ → ℕ → Type 0
-  Earlier n p = (q : ℕ) → q < p → C n q → ⊥
-
   abbrev Fitting : Verdict → Type 0
   Fitting (Judged j) = (j ≡ judgementOf s t) × ((n p : ℕ) → C n p → ⊥)
-  Fitting (TurnedBack n p) = JudgeFirst s t n p
+  Fitting (TurnedBack n p) = First C n p
 
-  at-start : (n : ℕ) → Earlier n 0
-  at-start n q h x = absurd (omega arith)
-
-  -- a test of one place
-  by-back : (k p : ℕ) (bad : Bool) (rest : Verdict) → (C (suc k) p → T bad) → (T bad → C (suc k) p) → None C k → Earlier (suc k) p
-      → (T (not bad) → Earlier (suc k) (suc p) → Fitting rest) → Fitting (back (suc k) p bad rest)
+  -- a test of the whole call
+  by-whole : (k : ℕ) (holds : Bool) (rest : Verdict) → ((q : ℕ) → C (suc k) q → T (not holds)) → (T (not holds) → C (suc k) 0) → None C k
+      → (T holds → None C (suc k) → Fitting rest) → Fitting (back (suc k) 0 (not holds) rest)
   unfolding back
-  by-back k p bad rest to from none earlier go =
-      by-test Fitting bad
-      (λ u. record { here = from u; no-earlier = earlier; no-lower = λ m q h x. none m q (omega arith) x })
-      (λ u.
-      go u
-      (λ q h x.
-      reach q p (omega arith) (λ e. T-not bad u (to (subst (λ n. C (suc k) n) e x))) (λ l. earlier q l x)))
-
-  -- all its places passed
-  past : (k places : ℕ) → ((q : ℕ) → C (suc k) q → q < places) → None C k → Earlier (suc k) places → None C (suc k)
-  past k places inside none earlier = next C k none (λ q x. earlier q (inside q x) x)
+  by-whole k holds rest to from none go =
+      by-test Fitting (not holds) (λ u. first-whole C k none (from u))
+      (λ u. go (twice holds u) (next C k none (λ q x. T-not holds (to q x) (twice holds u))))
+    where
+      twice : (b : Bool) → T (not (not b)) → T b
+      twice true u = tt
+      twice false u = u
 
   -- a search of many places
   by-scan : (k places : ℕ) (bad : ℕ → Bool) (rest : Verdict) → ((q : ℕ) → C (suc k) q → (q < places) × T (bad q))
       → ((q : ℕ) → q < places → T (bad q) → C (suc k) q) → None C k → (None C (suc k) → Fitting rest)
       → Fitting (backFirst (suc k) places bad rest)
   unfolding backFirst back
-  by-scan k places bad rest to from none go =
-      let p : ℕ = walk bad places 0 in
-      by-ltb Fitting p places
-      (λ l.
-      record {
-        here = from p l (walk-bad bad places l);
-        no-earlier = λ q h x. T-not (bad q) (clean-walk bad places .none q h) (to q x .1);
-        no-lower = λ m q h x. none m q (omega arith) x;
-      })
-      (λ g. go (next C k none (λ q x. let w = to q x in T-not (bad q) (clean-walk bad places .none q (omega (arith, w .0))) (w .1))))
+  by-scan k places bad rest to from none go = scanned C Fitting k places bad (TurnedBack (suc k) (walk bad places 0)) rest to from none (λ x. x) go
 
   beyond : (m q : ℕ) → 12 < m → C m q → ⊥
   beyond m q h x = subst (λ X. X) (List·getD-eq-default (judgeConditions s t q) ⊥ {n = m} (omega arith)) x
-
-  twice : (b : Bool) → T (not (not b)) → T b
-  twice true u = tt
-  twice false u = u
-
-  only : (q : ℕ) → q ≡ 0 → q < 1
-  only q e = omega arith
 
   -- a test at the three places
   by-places : (k : ℕ) {A B D : Type 0} {a b d : Bool} (rest : Verdict) → ((q : ℕ) → C (suc k) q ≡ among (A ∷ B ∷ D ∷ []) q) → None C k
@@ -182,13 +156,11 @@ module _ (s : Sheet) (t : Tree) where
   fitting : Fitting (judgeOf s t)
   unfolding judgeOf
   fitting =
-      by-back 0 0 (not (sizeHolds (s .rows) (s .columns) (s .labels))) (after1 s t) (λ x. size-to s (x .1)) (λ u. (refl, size-from s u)) (none0 C (λ q x. x)) (at-start 1)
-      (λ a e1.
-      let some : 1 ≤ s .rows = limited s (twice (sizeHolds (s .rows) (s .columns) (s .labels)) a) .rows-some in
-      let n1 : None C 1 = past 0 1 (λ q x. only q (x .0)) (none0 C (λ q x. x)) e1 in
-      by-back 1 0 (not (judgedHolds s)) (after2 s t) (λ x. lengths-to s (x .1)) (λ u. (refl, lengths-from s u)) n1 (at-start 2)
-      (λ _ e2.
-      let n2 : None C 2 = past 1 1 (λ q x. only q (x .0)) n1 e2 in
+      by-whole 0 (sizeHolds (s .rows) (s .columns) (s .labels)) (after1 s t) (λ q x. size-to s (x .1)) (λ u. (refl, size-from s u)) (none0 C (λ q x. x))
+      (λ a n1.
+      let some : 1 ≤ s .rows = limited s a .rows-some in
+      by-whole 1 (judgedHolds s) (after2 s t) (λ q x. lengths-to s (x .1)) (λ u. (refl, lengths-from s u)) n1
+      (λ _ n2.
       let n4 : None C 4 = next C 3 (next C 2 n2 (λ q x. x)) (λ q x. x) in
       by-scan 4 (cellsOf s) (badValue (s .values)) (after5 s t) (value-to s some) (value-from s some) n4
       (λ n5.
@@ -197,21 +169,12 @@ module _ (s : Sheet) (t : Tree) where
 
   -- ---- two answers that fit are the same
 
-  same-refusal : (n p m q : ℕ) → JudgeFirst s t n p → JudgeFirst s t m q → (n ≡ m) × (p ≡ q)
-  same-refusal n p m q x y =
-      let e : n ≡ m =
-      order n m (λ l. reach n m l (λ e. e) (λ g. absurd (y .no-lower n p g (x .here)))) (λ g. absurd (x .no-lower m q g (y .here))) in
-      let z : JudgeFirst s t n q = subst (λ k. JudgeFirst s t k q) (sym e) y in (
-        e,
-        order p q (λ l. reach p q l (λ e. e) (λ g. absurd (z .no-earlier p g (x .here)))) (λ g. absurd (x .no-earlier q g (z .here))),
-      )
-
   same-answer : (a b : Verdict) → Fitting a → Fitting b → a ≡ b
   same-answer (Judged i) (Judged j) x y = ap (λ k. Judged k) (x .0 ∙ sym (y .0))
   same-answer (Judged i) (TurnedBack n p) x y = absurd (x .1 n p (y .here))
   same-answer (TurnedBack n p) (Judged j) x y = absurd (y .1 n p (x .here))
   same-answer (TurnedBack n p) (TurnedBack m q) x y =
-      let w = same-refusal n p m q x y in
+      let w = same-refusal C n p m q x y in
       ap (λ (k : ℕ). TurnedBack k p) (w .0) ∙ ap (λ (k : ℕ). TurnedBack m k) (w .1)
 
 -- ---- the laws

@@ -13,6 +13,7 @@ use Rattle.basics.proofs.Choice.{by-test, pick-true, pick-false, bit-true, bit-
 use Rattle.basics.proofs.Lists.{table-next, tally-append, tally-le, length-table}
 use Rattle.sheet.specs.Limits.{mostRows}
 use Rattle.sheet.specs.Sheet.{Sheet, labelOf}
+use Rattle.sheet.specs.Rows.{sentLeft, leftward, rightward, rowsAt, wrongAt}
 use Rattle.sheet.proofs.Index.{column-in}
 use Rattle.sheet.proofs.Search.{truth, untruth}
 use Rattle.tree.specs.declared.Question.{Question}
@@ -25,8 +26,9 @@ use Rattle.judge.specs.declared.judge_rows.Wrong.{Wrong}
 use Rattle.judge.specs.declared.judge_rows.Seen.{Seen}
 use Rattle.judge.specs.declared.judge_rows.Passed.{Passed}
 use Rattle.judge.specs.declared.judge_rows.Judgement.{Judgement}
-use Rattle.judge.specs.Mistakes.{sentLeft, leftward, rightward, rootLeftward, rootRightward, rowsAt, wrongAt, reachedAt, sideWrong, wrongSum, supportOf, judgementOf}
-use Rattle.judge.specs.Passing.{badColumn, firstRows, mistaken, nothing, reachedOf, seenOf, passedOf, reachedBy, reachedLeft, reachedRight, nextOf, wrongSeen, Few, SeenWithin}
+use Rattle.judge.specs.Mistakes.{rootLeftward, rootRightward, reachedAt, sideWrong, wrongSum, supportOf, judgementOf}
+use Rattle.judge.specs.Passing.{firstRows, mistaken, nothing, reachedOf, seenOf, passedOf, reachedBy, reachedLeft, reachedRight, nextOf, wrongSeen, Few, SeenWithin}
+use Rattle.judge.specs.Judge.{badColumn}
 
 -- ---- a value's index
 

@@ -20,11 +20,10 @@ use Rattle.tree.specs.declared.Side.{Side}
 use Rattle.tree.specs.declared.Tree.{Tree}
 use Rattle.judge.specs.declared.judge_rows.Judgement.{Judgement}
 use Rattle.judge.specs.Mistakes.{judgementOf}
-use Rattle.judge.specs.Passing.{badColumn}
 use Rattle.judge.specs.declared.Verdict.{Verdict}
 use Rattle.judge.specs.declared.Verdict.the-variants.{TurnedBack, Judged}
 use Rattle.judge.specs.Reasons.{columnHigh, leafHigh, thresholdEndless, places}
-use Rattle.judge.specs.Judge.{judgedHolds, badLeaf, badThreshold, back, backFirst, badAt, badColumns, badLeaves, badThresholds, treeChecked, judgeOf}
+use Rattle.judge.specs.Judge.{judgedHolds, badLeaf, badThreshold, back, backFirst, badAt, badColumns, badLeaves, badThresholds, treeChecked, judgeOf, badColumn}
 
 -- ---- one reason after another
 

@@ -1,4 +1,4 @@
--- Document 01, "Reasons a call turns back": "the judge 1, 2, 5, 6, 10, 11, 12", the lowest number first. Definitions only.
+-- For a signer. Document 01, "Reasons a call turns back": "the judge 1, 2, 5, 6, 10, 11, 12", the lowest number first. Definitions only.
 use Prim.Native.Nat.{ℕ}
 use mathlib.Core.Bool.{Bool, false, not, _&&_, _||_}
 use mathlib.Core.List.{[], _∷_}
@@ -14,7 +14,6 @@ use Rattle.tree.specs.declared.Side.{Side}
 use Rattle.tree.specs.declared.Side.the-variants.{Leaf, Split}
 use Rattle.tree.specs.declared.Tree.{Tree}
 use Rattle.judge.specs.Mistakes.{judgementOf}
-use Rattle.judge.specs.Passing.{badColumn}
 use Rattle.judge.specs.declared.Verdict.{Verdict}
 use Rattle.judge.specs.declared.Verdict.the-variants.{TurnedBack, Judged}
 use Rattle.judge.specs.Reasons.{columnHigh, leafHigh, thresholdEndless, places}
@@ -22,6 +21,11 @@ use Rattle.judge.specs.Reasons.{columnHigh, leafHigh, thresholdEndless, 
 -- 2: "an input slice of the wrong length": the judge is handed values and labels only
 unfoldable pub judgedHolds : Sheet → Bool
 judgedHolds s = eqb (length (s .values)) (cellsOf s) && eqb (length (s .codes)) (s .rows)
+
+-- 10: "judge: tree column too high", at a side's question
+unfoldable pub badColumn : ℕ → Side → Bool
+badColumn columns (Leaf leaf) = false
+badColumn columns (Split question left right) = leb columns (question .column)
 
 -- 11: "judge: leaf label too high", at any leaf of a side
 unfoldable pub badLeaf : ℕ → Side → Bool

@@ -1,19 +1,21 @@
--- What holds of the judge, as statements; `proofs/` proves each. The conditions of the table stand here once more, with no search in them.
+-- For a signer. What holds of the judge, as statements; `proofs/` proves each. The conditions of the table stand here once more, with no
+-- search in them.
 use mathlib.Core.Path.{_≡_}
 use mathlib.Core.Logic.{_⊎_}
-use Prim.Native.Nat.{ℕ, _+_, _*_, _≤_, _<_}
+use Prim.Native.Nat.{ℕ, _+_, _*_, _≤_}
 use mathlib.Core.List.{List, [], _∷_}
 use lib.ListN.{length, getD}
 use lib.Dec.{T}
 use lib.Ieee.Scale.{finite}
 use Rattle.sheet.specs.Sheet.{Sheet}
-use Rattle.sheet.specs.Laws.{SizeOutside, ValueOutside, LabelHigh}
+use Rattle.sheet.specs.Laws.{First, SizeOutside, ValueOutside, LabelHigh}
+use Rattle.sheet.specs.Rows.{rowsAt}
 use Rattle.tree.specs.declared.Side.{Side}
 use Rattle.tree.specs.declared.Side.the-variants.{Leaf, Split}
 use Rattle.tree.specs.declared.Tree.{Tree}
 use Rattle.judge.specs.declared.judge_rows.Judgement.{Judgement}
 use Rattle.judge.specs.declared.Verdict.the-variants.{TurnedBack, Judged}
-use Rattle.judge.specs.Mistakes.{rowsAt, rootLeftward, rootRightward, judgementOf}
+use Rattle.judge.specs.Mistakes.{rootLeftward, rootRightward, judgementOf}
 use Rattle.judge.specs.Judge.{judgeOf}
 
 -- ---- the conditions, each of a place; 1, 5 and 6 are the input check's
@@ -80,17 +82,11 @@ JudgeCondition s t n p = getD (judgeConditions s t p) n ⊥
 
 -- ---- "The lowest number wins, each check over the whole sheet."
 
--- reason n holds at place p, at no earlier place, and no lower reason holds anywhere
-pub record JudgeFirst (s : Sheet) (t : Tree) (n p : ℕ) : Type 0 where
-  pub here : JudgeCondition s t n p
-  pub no-earlier : (q : ℕ) → q < p → JudgeCondition s t n q → ⊥
-  pub no-lower : (m q : ℕ) → m < n → JudgeCondition s t m q → ⊥
-
 -- "Each is given exactly when its condition holds and no lower one does."
 abbrev pub JudgeGivenExactly : Type 0
 JudgeGivenExactly =
     (s : Sheet) (t : Tree) (n p : ℕ)
-    → (judgeOf s t ≡ TurnedBack n p → JudgeFirst s t n p) × (JudgeFirst s t n p → judgeOf s t ≡ TurnedBack n p)
+    → (judgeOf s t ≡ TurnedBack n p → First (JudgeCondition s t) n p) × (First (JudgeCondition s t) n p → judgeOf s t ≡ TurnedBack n p)
 
 -- and a sheet and a tree of which none holds are judged, and no others
 abbrev pub JudgedExactly : Type 0

@@ -1,12 +1,9 @@
--- Document 01, "Judge (added)": "It answers the tree's mistakes, in total and per leaf, and its support: the smaller of the two root sides' row
--- counts." Definitions only.
+-- For a signer. Document 01, "Judge (added)": "It answers the tree's mistakes, in total and per leaf, and its support: the smaller of the two
+-- root sides' row counts." Definitions only.
 use Prim.Native.Nat.{ℕ, _+_, min}
-use mathlib.Core.Bool.{Bool, true, not, _&&_}
-use lib.Dec.{eqb}
-use Rattle.basics.specs.Lists.{tally}
-use Rattle.threshold.specs.Threshold.{goesLeft}
-use Rattle.sheet.specs.Sheet.{Sheet, valueOf, labelOf, everyRow}
-use Rattle.tree.specs.declared.Question.{Question}
+use mathlib.Core.Bool.{Bool, true}
+use Rattle.sheet.specs.Sheet.{Sheet}
+use Rattle.sheet.specs.Rows.{leftward, rightward, rowsAt, wrongAt}
 use Rattle.tree.specs.declared.Leaf as leaf
 use Rattle.tree.specs.declared.Side.{Side}
 use Rattle.tree.specs.declared.Side.the-variants.{Leaf, Split}
@@ -15,24 +12,6 @@ use Rattle.judge.specs.declared.judge_rows.Reached.{Reached}
 use Rattle.judge.specs.declared.judge_rows.Wrong.{Wrong}
 use Rattle.judge.specs.declared.judge_rows.Wrong.the-variants.{AtLeaf, AtSplit}
 use Rattle.judge.specs.declared.judge_rows.Judgement.{Judgement}
-
--- "Rows with value ≤ threshold go left.": whether row r does at a question
-abbrev pub sentLeft : Sheet → Question → ℕ → Bool
-sentLeft s question r = goesLeft (valueOf s (question .column) r) (question .threshold)
-
--- of the rows that come to a question, those that go left, and the others
-abbrev pub leftward : Sheet → Question → (ℕ → Bool) → ℕ → Bool
-leftward s question mine r = mine r && sentLeft s question r
-
-abbrev pub rightward : Sheet → Question → (ℕ → Bool) → ℕ → Bool
-rightward s question mine r = mine r && not (sentLeft s question r)
-
--- how many rows come there, and how many of them have another label
-unfoldable pub rowsAt : Sheet → (ℕ → Bool) → ℕ
-rowsAt s mine = tally mine (everyRow s)
-
-unfoldable pub wrongAt : Sheet → (ℕ → Bool) → ℕ → ℕ
-wrongAt s mine label = tally (λ r. mine r && not (eqb (labelOf s r) label)) (everyRow s)
 
 -- "per leaf": what comes to one
 unfoldable pub reachedAt : Sheet → (ℕ → Bool) → leaf.Leaf → Reached

@@ -1,16 +1,17 @@
--- One row after another through the tree: what has been seen of a side after the first rows. Definitions only.
+-- For proofs only. One row after another through the tree: what has been seen of a side after the first rows.
 use Prim.Native.Nat.{ℕ, _+_, _≤_, _<_, _*_}
 use mathlib.Core.Path.{_≡_}
-use mathlib.Core.Bool.{Bool, false, not, _&&_}
+use mathlib.Core.Bool.{Bool, not, _&&_}
 use mathlib.Core.List.{List}
 use lib.ListN.{length}
-use lib.Dec.{T, leb, eqb}
+use lib.Dec.{T, eqb}
 use lib.Ieee.{Float}
 use Rattle.basics.specs.Choice.{pick, bit}
 use Rattle.basics.specs.Lists.{tally, table}
 use Rattle.sheet.specs.declared.Size.{Size}
 use Rattle.sheet.specs.Limits.{mostRows}
 use Rattle.sheet.specs.Sheet.{Sheet, labelOf}
+use Rattle.sheet.specs.Rows.{sentLeft, leftward, rightward}
 use Rattle.tree.specs.declared.Leaf as leaf
 use Rattle.tree.specs.declared.Side.{Side}
 use Rattle.tree.specs.declared.Side.the-variants.{Leaf, Split}
@@ -20,7 +21,8 @@ use Rattle.judge.specs.declared.judge_rows.Wrong.{Wrong}
 use Rattle.judge.specs.declared.judge_rows.Wrong.the-variants.{AtLeaf, AtSplit}
 use Rattle.judge.specs.declared.judge_rows.Seen.{Seen}
 use Rattle.judge.specs.declared.judge_rows.Passed.{Passed}
-use Rattle.judge.specs.Mistakes.{sentLeft, leftward, rightward, rootLeftward, rootRightward}
+use Rattle.judge.specs.Judge.{badColumn}
+use Rattle.judge.specs.Mistakes.{rootLeftward, rootRightward}
 
 -- how many of the first n rows pass
 abbrev pub firstRows : (ℕ → Bool) → ℕ → ℕ
@@ -88,11 +90,6 @@ pub record SeenWithin (seen : Seen) (n : ℕ) : Type 0 where
   pub rows-in : seen .rows ≤ n
   pub left-in : Few (seen .left) n
   pub right-in : Few (seen .right) n
-
--- 10: "judge: tree column too high", at a side's question
-unfoldable pub badColumn : ℕ → Side → Bool
-badColumn columns (Leaf leaf) = false
-badColumn columns (Split question left right) = leb columns (question .column)
 
 -- the tree asks columns of the sheet
 pub record Asking (columns : ℕ) (t : Tree) : Type 0 where

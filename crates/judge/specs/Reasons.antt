@@ -1,4 +1,4 @@
--- Document 01, "Reasons a call turns back": the numbers of the judge's own reasons, each once. Definitions only.
+-- For a signer. Document 01, "Reasons a call turns back": the numbers of the judge's own reasons, each once. Definitions only.
 use Prim.Native.Nat.{ℕ}
 
 -- "judge: tree column too high"

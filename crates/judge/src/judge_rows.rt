@@ -8,8 +8,11 @@ ghost use lib.Dec.{T, eqb};
 ghost use Rattle.basics.specs.Choice.{bit};
 ghost use Rattle.sheet.specs.Check.{sheetOf};
 ghost use Rattle.sheet.specs.Limits.{mostRows};
-ghost use Rattle.judge.specs.Mistakes.{sentLeft, wrongSum, judgementOf};
-ghost use Rattle.judge.specs.Passing.{badColumn, JudgeShaped, Few, SeenWithin, Asking, reachedBy, passedOf, nextOf, wrongSeen};
+ghost use Rattle.sheet.specs.Rows.{sentLeft};
+ghost use Rattle.judge.specs.Mistakes.{wrongSum, judgementOf};
+ghost use Rattle.judge.specs.Passing.{JudgeShaped, Few, SeenWithin, Asking, reachedBy, passedOf, nextOf, wrongSeen};
+ghost use Rattle.judge.specs.Judge.{badColumn};
+ghost use Rattle.basics.specs.Lent.{before};
 use basics::smaller_word;
 use basics::wide_byte;
 use sheet::Size;
@@ -70,7 +73,7 @@ fn reach(code: usize, leaf: Leaf, reached: Reached) -> Reached
 // Whether a row goes left at a question.
 fn sent_left(size: Size, values: &[f64], question: Question, row: usize) -> bool
     requires { ⌜ (length (now values) ≡ size .columns * size .rows) × (question .column < size .columns) × (row < size .rows) ⌝ }
-    ensures { λ r. ⌜ ((codes : List ℕ) → r ≡ sentLeft (sheetOf size (now (values .entry)) codes [] [] []) question row) ⌝ }
+    ensures { λ r. ⌜ ((codes : List ℕ) → r ≡ sentLeft (sheetOf size (before values) codes [] [] []) question row) ⌝ }
 {
     let value = values[question.column * size.rows + row];
     threshold::goes_left(value, question.threshold)
@@ -79,7 +82,7 @@ fn sent_left(size: Size, values: &[f64], question: Question, row: usize) -> bool
 // A row that came to the side goes on to its leaf.
 fn next(size: Size, values: &[f64], codes: &[u8], side: Side, row: usize, seen: Seen) -> Seen
     requires { ⌜ JudgeShaped size (now values) (now codes) × T (not (badColumn (size .columns) side)) × (row < size .rows) × SeenWithin seen row ⌝ }
-    ensures { λ r. ⌜ r ≡ nextOf (sheetOf size (now (values .entry)) (now (codes .entry)) [] [] []) side row seen ⌝ }
+    ensures { λ r. ⌜ r ≡ nextOf (sheetOf size (before values) (before codes) [] [] []) side row seen ⌝ }
 {
     let code = wide_byte(codes[row]);
     let rows = seen.rows + 1;
@@ -120,7 +123,7 @@ fn next(size: Size, values: &[f64], codes: &[u8], side: Side, row: usize, seen: 
 // Every row goes to a side of the first question, and on to a leaf there.
 fn pass(size: Size, values: &[f64], codes: &[u8], tree: Tree) -> Passed
     requires { ⌜ JudgeShaped size (now values) (now codes) × Asking (size .columns) tree ⌝ }
-    ensures { λ r. ⌜ r ≡ passedOf (sheetOf size (now (values .entry)) (now (codes .entry)) [] [] []) tree (size .rows) ⌝ }
+    ensures { λ r. ⌜ r ≡ passedOf (sheetOf size (before values) (before codes) [] [] []) tree (size .rows) ⌝ }
 {
     let question = tree.question;
     let first = tree.left;
@@ -170,7 +173,7 @@ fn wrong_sum(wrong: Wrong) -> u32
 
 pub(crate) fn judge_rows(size: Size, values: &[f64], codes: &[u8], tree: Tree) -> Judgement
     requires { ⌜ JudgeShaped size (now values) (now codes) × Asking (size .columns) tree ⌝ }
-    ensures { λ r. ⌜ r ≡ judgementOf (sheetOf size (now (values .entry)) (now (codes .entry)) [] [] []) tree ⌝ }
+    ensures { λ r. ⌜ r ≡ judgementOf (sheetOf size (before values) (before codes) [] [] []) tree ⌝ }
 {
     let first = tree.left;
     let second = tree.right;

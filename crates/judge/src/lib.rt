@@ -8,10 +8,11 @@ ghost use lib.Ieee.Scale.{finite};
 ghost use Rattle.basics.specs.Walk.{walk};
 ghost use Rattle.sheet.specs.Check.{sheetOf};
 ghost use Rattle.sheet.specs.Limits.{mostRows, mostColumns};
-ghost use Rattle.judge.specs.Passing.{badColumn, JudgeShaped};
+ghost use Rattle.judge.specs.Passing.{JudgeShaped};
 ghost use Rattle.judge.specs.declared.Verdict.the-variants.{TurnedBack};
 ghost use Rattle.judge.specs.Reasons.{places};
-ghost use Rattle.judge.specs.Judge.{judgedHolds, badLeaf, badThreshold, badAt, treeChecked, judgeOf};
+ghost use Rattle.judge.specs.Judge.{judgedHolds, badLeaf, badThreshold, badAt, treeChecked, judgeOf, badColumn};
+ghost use Rattle.basics.specs.Lent.{before};
 use crate::judge_rows::Judgement;
 use sheet::Size;
 use tree::Side;
@@ -103,7 +104,7 @@ fn first_place(root: bool, left: bool, right: bool) -> usize
 // Reasons 10, 11 and 12, and then the judgement.
 fn judge_tree(size: Size, values: &[f64], codes: &[u8], tree: Tree) -> Verdict
     requires { ⌜ JudgeShaped size (now values) (now codes) ⌝ }
-    ensures { λ r. ⌜ r ≡ treeChecked (sheetOf size (now (values .entry)) (now (codes .entry)) [] [] []) tree ⌝ }
+    ensures { λ r. ⌜ r ≡ treeChecked (sheetOf size (before values) (before codes) [] [] []) tree ⌝ }
 {
     let left = tree.left;
     let right = tree.right;
@@ -136,7 +137,7 @@ fn judge_tree(size: Size, values: &[f64], codes: &[u8], tree: Tree) -> Verdict
 // Whether the values have an entry for each cell and the labels one for each row.
 fn lengths_hold(size: Size, values: &[f64], codes: &[u8]) -> bool
     requires { ⌜ (size .rows ≤ mostRows) × (size .columns ≤ mostColumns) ⌝ }
-    ensures { λ r. ⌜ r ≡ judgedHolds (sheetOf size (now (values .entry)) (now (codes .entry)) [] [] []) ⌝ }
+    ensures { λ r. ⌜ r ≡ judgedHolds (sheetOf size (before values) (before codes) [] [] []) ⌝ }
 {
     if values.len() != size.columns * size.rows {
         return false;
@@ -146,7 +147,7 @@ fn lengths_hold(size: Size, values: &[f64], codes: &[u8]) -> bool
 
 // The lowest reason that holds, and its first place; else the tree's mistakes and its support.
 pub fn judge(size: Size, values: &[f64], codes: &[u8], tree: Tree) -> Verdict
-    ensures { λ r. ⌜ r ≡ judgeOf (sheetOf size (now (values .entry)) (now (codes .entry)) [] [] []) tree ⌝ }
+    ensures { λ r. ⌜ r ≡ judgeOf (sheetOf size (before values) (before codes) [] [] []) tree ⌝ }
 {
     if !sheet::size_holds(size) {
         return turned_back(sheet::SIZE_OUTSIDE, 0);

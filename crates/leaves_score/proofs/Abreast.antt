@@ -17,14 +17,16 @@ use Rattle.sheet.specs.Sheet.{Sheet, valueOf, labelOf, rowAt}
 use Rattle.side_scan.specs.declared.cut_score.Best.{Best}
 use Rattle.side_scan.specs.declared.cut_score.Cut.{Cut}
 use Rattle.side_scan.specs.declared.cut_score.Share.{Share}
-use Rattle.side_scan.specs.declared.cut_score.Stand.{Stand}
+use Rattle.side_scan.specs.declared.cut_score.Counting.{Counting}
 use Rattle.side_scan.specs.declared.SideScan.{SideScan}
 use Rattle.side_scan.specs.Counts.{noRows}
 use Rattle.side_scan.specs.OneSide.{restarted, raised}
-use Rattle.leaves_score.specs.Column.{other, scanColumn}
-use Rattle.leaves_score.specs.Kept.{rowsToCome, through, Live}
-use Rattle.side_scan.specs.Scored.{notBegun, standAfter, splitBy, passed, cutScored}
-use Rattle.leaves_score.specs.SideLists.{goLeft, noShare, noBest, atNumber, bothAt, ReadyColumn, Found}
+use Rattle.leaves_score.specs.Column.{other, scanColumn, through}
+use Rattle.leaves_score.specs.Kept.{rowsToCome, Live}
+use Rattle.side_scan.specs.Scored.{splitBy}
+use Rattle.side_scan.specs.Passing.{notBegun, countingAfter, passed, cutScored}
+use Rattle.leaves_score.specs.SideLists.{noShare, noBest, atNumber, bothAt, ReadyColumn, Found}
+use Rattle.leaves_score.specs.Lists.{goLeft}
 use Rattle.leaves_score.proofs.Coupled.{both-rows}
 use Rattle.leaves_score.proofs.Rows.{by-two}
 use Rattle.leaves_score.proofs.Column.{Stands, passes, scores, ends, finished, starts}
@@ -82,16 +84,16 @@ module _ (s : Sheet) (sides : List ℕ) (c : ℕ) (own : List (List ℕ)) (share
   abbrev pub to-come : ℕ → ℕ → List ℕ
   to-come k i = those (mine sides k) (rowsToCome s c (s .rows - i) i)
 
-  pub record Abreast (i : ℕ) (bests : List Best) (seen : List (List ℕ)) (stand : List Stand) : Type 0 where
+  pub record Abreast (i : ℕ) (bests : List Best) (seen : List (List ℕ)) (counting : List Counting) : Type 0 where
     pub within : i ≤ s .rows
     pub two-bests : length bests ≡ 2
     pub two-seen : length seen ≡ 2
-    pub two-stand : length stand ≡ 2
-    pub each : (k : ℕ) → k < 2 → Stands s c (began k) (target k) (to-come k i) (getD seen k []) (getD stand k notBegun .counted) (getD stand k notBegun .until) (getD stand k notBegun .last) (getD bests k noBest)
+    pub two-counting : length counting ≡ 2
+    pub each : (k : ℕ) → k < 2 → Stands s c (began k) (target k) (to-come k i) (getD seen k []) (getD counting k notBegun .counted) (getD counting k notBegun .until) (getD counting k notBegun .last) (getD bests k noBest)
 
   -- ---- a row
 
-  module _ (i : ℕ) (bests : List Best) (seen : List (List ℕ)) (stand : List Stand) (h : Abreast i bests seen stand) (more : i < s .rows)
+  module _ (i : ℕ) (bests : List Best) (seen : List (List ℕ)) (counting : List Counting) (h : Abreast i bests seen counting) (more : i < s .rows)
       (side : ℕ) (in-two : side < 2) (side-is : getD sides (rowAt s c i) 0 ≡ side) where
     abbrev row : ℕ
     row = rowAt s c i
@@ -111,71 +113,71 @@ module _ (s : Sheet) (sides : List ℕ) (c : ℕ) (own : List (List ℕ)) (share
         ap (those (mine sides k)) next-rows
         ∙ those-no (mine sides k) row (rowsToCome s c (s .rows - (i + 1)) (i + 1)) (mine-other sides row k l (omega (arith, side-is, in-two)) (λ e. n (e ∙ side-is)))
 
-    pub here : Stands s c (began side) (target side) (row ∷ to-come side (i + 1)) (getD seen side []) (getD stand side notBegun .counted) (getD stand side notBegun .until) (getD stand side notBegun .last) (getD bests side noBest)
-    here = subst (λ (rs : List ℕ). Stands s c (began side) (target side) rs (getD seen side []) (getD stand side notBegun .counted) (getD stand side notBegun .until) (getD stand side notBegun .last) (getD bests side noBest)) own-rows (h .each side in-two)
+    pub here : Stands s c (began side) (target side) (row ∷ to-come side (i + 1)) (getD seen side []) (getD counting side notBegun .counted) (getD counting side notBegun .until) (getD counting side notBegun .last) (getD bests side noBest)
+    here = subst (λ (rs : List ℕ). Stands s c (began side) (target side) rs (getD seen side []) (getD counting side notBegun .counted) (getD counting side notBegun .until) (getD counting side notBegun .last) (getD bests side noBest)) own-rows (h .each side in-two)
 
     -- the other side stays
-    moved : (bests' : List Best) (seen' : List (List ℕ)) (stand' : List Stand) (best : Best) (counts : List ℕ) (on : Stand)
-        → Changed bests bests' side best noBest → Changed seen seen' side counts [] → Changed stand stand' side on notBegun
-        → Stands s c (began side) (target side) (to-come side (i + 1)) counts (on .counted) (on .until) (on .last) best → Abreast (i + 1) bests' seen' stand'
-    moved bests' seen' stand' best counts on cb cs ct st =
+    moved : (bests' : List Best) (seen' : List (List ℕ)) (counting' : List Counting) (best : Best) (counts : List ℕ) (on : Counting)
+        → Changed bests bests' side best noBest → Changed seen seen' side counts [] → Changed counting counting' side on notBegun
+        → Stands s c (began side) (target side) (to-come side (i + 1)) counts (on .counted) (on .until) (on .last) best → Abreast (i + 1) bests' seen' counting'
+    moved bests' seen' counting' best counts on cb cs ct st =
         record {
           within = omega arith;
           two-bests = cb .two;
           two-seen = cs .two;
-          two-stand = ct .two;
+          two-counting = ct .two;
           each = λ k l. decide (eqb k side) (λ t. itself k (eqb→eq k side t)) (λ t. another k l (neqb k side t));
         }
       where
-        itself : (k : ℕ) → k ≡ side → Stands s c (began k) (target k) (to-come k (i + 1)) (getD seen' k []) (getD stand' k notBegun .counted) (getD stand' k notBegun .until) (getD stand' k notBegun .last) (getD bests' k noBest)
+        itself : (k : ℕ) → k ≡ side → Stands s c (began k) (target k) (to-come k (i + 1)) (getD seen' k []) (getD counting' k notBegun .counted) (getD counting' k notBegun .until) (getD counting' k notBegun .last) (getD bests' k noBest)
         itself k e = rw (e, cb .at, cs .at, ct .at) st
 
-        another : (k : ℕ) → k < 2 → (k ≡ side → ⊥) → Stands s c (began k) (target k) (to-come k (i + 1)) (getD seen' k []) (getD stand' k notBegun .counted) (getD stand' k notBegun .until) (getD stand' k notBegun .last) (getD bests' k noBest)
+        another : (k : ℕ) → k < 2 → (k ≡ side → ⊥) → Stands s c (began k) (target k) (to-come k (i + 1)) (getD seen' k []) (getD counting' k notBegun .counted) (getD counting' k notBegun .until) (getD counting' k notBegun .last) (getD bests' k noBest)
         another k l e = rw (cb .elsewhere k e, cs .elsewhere k e, ct .elsewhere k e, ← other-rows k l e) (h .each k l)
 
     module _ (row-in : row < s .rows) where
       -- it is only counted
-      pub passes-on : passed (s .values) (c * s .rows) row (getD stand side notBegun .last) (getD stand side notBegun .counted) (getD stand side notBegun .until) ≡ true
-          → Abreast (i + 1) bests (set seen side (raised (getD seen side []) (labelOf s row))) (set stand side (standAfter (getD stand side notBegun) row))
+      pub passes-on : passed (s .values) (c * s .rows) row (getD counting side notBegun .last) (getD counting side notBegun .counted) (getD counting side notBegun .until) ≡ true
+          → Abreast (i + 1) bests (set seen side (raised (getD seen side []) (labelOf s row))) (set counting side (countingAfter (getD counting side notBegun) row))
       passes-on e =
-          moved bests (set seen side (raised (getD seen side []) (labelOf s row))) (set stand side (standAfter (getD stand side notBegun) row))
-          (getD bests side noBest) (raised (getD seen side []) (labelOf s row)) (standAfter (getD stand side notBegun) row)
-          (unset bests side noBest (h .two-bests)) (set-at seen side _ [] (h .two-seen) in-two) (set-at stand side _ notBegun (h .two-stand) in-two)
-          (passes s c (began side) (target side) row (to-come side (i + 1)) (getD seen side []) (getD stand side notBegun .counted) (getD stand side notBegun .until) (getD stand side notBegun .last) (getD bests side noBest) here row-in e)
+          moved bests (set seen side (raised (getD seen side []) (labelOf s row))) (set counting side (countingAfter (getD counting side notBegun) row))
+          (getD bests side noBest) (raised (getD seen side []) (labelOf s row)) (countingAfter (getD counting side notBegun) row)
+          (unset bests side noBest (h .two-bests)) (set-at seen side _ [] (h .two-seen) in-two) (set-at counting side _ notBegun (h .two-counting) in-two)
+          (passes s c (began side) (target side) row (to-come side (i + 1)) (getD seen side []) (getD counting side notBegun .counted) (getD counting side notBegun .until) (getD counting side notBegun .last) (getD bests side noBest) here row-in e)
 
       -- the side with the count up to which its rows are skipped from now on
-      abbrev skipping : ℕ → Stand
-      skipping until = record { counted = getD stand side notBegun .counted; until = until; last = getD stand side notBegun .last }
+      abbrev skipping : ℕ → Counting
+      skipping until = record { counted = getD counting side notBegun .counted; until = until; last = getD counting side notBegun .last }
 
       -- or its cut is scored
-      pub scores-on : passed (s .values) (c * s .rows) row (getD stand side notBegun .last) (getD stand side notBegun .counted) (getD stand side notBegun .until) ≡ false
+      pub scores-on : passed (s .values) (c * s .rows) row (getD counting side notBegun .last) (getD counting side notBegun .counted) (getD counting side notBegun .until) ≡ false
           → 1 ≤ getD share side noShare .least → (k : Cut) (found : Best) (bests' : List Best)
-          → k ≡ cutScored (getD own side []) (getD seen side []) (getD share side noShare .labels) (getD stand side notBegun .counted) (getD share side noShare .size) (getD share side noShare .least) ((getD bests side noBest) .score)
-          → found ≡ pick (k .taken) (splitBy (k .peaks) (getD stand side notBegun .counted) (getD share side noShare .size - getD stand side notBegun .counted) c (valueOf s c (getD stand side notBegun .last)) (valueOf s c row)) (getD bests side noBest)
+          → k ≡ cutScored (getD own side []) (getD seen side []) (getD share side noShare .labels) (getD counting side notBegun .counted) (getD share side noShare .size) (getD share side noShare .least) ((getD bests side noBest) .score)
+          → found ≡ pick (k .taken) (splitBy (k .peaks) (getD counting side notBegun .counted) (getD share side noShare .size - getD counting side notBegun .counted) c (valueOf s c (getD counting side notBegun .last)) (valueOf s c row)) (getD bests side noBest)
           → Changed bests bests' side found noBest
           → Abreast (i + 1) bests' (set seen side (raised (getD seen side []) (labelOf s row)))
-          (set (set stand side (skipping (k .until))) side (standAfter (getD (set stand side (skipping (k .until))) side notBegun) row))
+          (set (set counting side (skipping (k .until))) side (countingAfter (getD (set counting side (skipping (k .until))) side notBegun) row))
       scores-on e some k found bests' ek ef cb =
-          let once = set-at stand side (skipping (k .until)) notBegun (h .two-stand) in-two in
+          let once = set-at counting side (skipping (k .until)) notBegun (h .two-counting) in-two in
           rw (once .at)
-          (moved bests' (set seen side (raised (getD seen side []) (labelOf s row))) (set (set stand side (skipping (k .until))) side (standAfter (skipping (k .until)) row))
-          found (raised (getD seen side []) (labelOf s row)) (standAfter (skipping (k .until)) row)
-          cb (set-at seen side _ [] (h .two-seen) in-two) (set-again stand (set stand side (skipping (k .until))) side _ _ notBegun once in-two)
-          (scores s c (began side) (target side) row (to-come side (i + 1)) (getD seen side []) (getD stand side notBegun .counted) (getD stand side notBegun .until) (getD stand side notBegun .last) (getD bests side noBest) here row-in e
+          (moved bests' (set seen side (raised (getD seen side []) (labelOf s row))) (set (set counting side (skipping (k .until))) side (countingAfter (skipping (k .until)) row))
+          found (raised (getD seen side []) (labelOf s row)) (countingAfter (skipping (k .until)) row)
+          cb (set-at seen side _ [] (h .two-seen) in-two) (set-again counting (set counting side (skipping (k .until))) side _ _ notBegun once in-two)
+          (scores s c (began side) (target side) row (to-come side (i + 1)) (getD seen side []) (getD counting side notBegun .counted) (getD counting side notBegun .until) (getD counting side notBegun .last) (getD bests side noBest) here row-in e
           some k found ek ef))
 
   -- ---- the end
 
-  module _ (i : ℕ) (bests : List Best) (seen : List (List ℕ)) (stand : List Stand) (h : Abreast i bests seen stand) (k : ℕ) (in-two : k < 2) where
+  module _ (i : ℕ) (bests : List Best) (seen : List (List ℕ)) (counting : List Counting) (h : Abreast i bests seen counting) (k : ℕ) (in-two : k < 2) where
     -- no cut to come can be taken
-    pub over : getD share k noShare .size ≤ getD stand k notBegun .until → getD bests k noBest ≡ target k .best
-    over n = ends s c (began k) (target k) (to-come k i) (getD seen k []) (getD stand k notBegun .counted) (getD stand k notBegun .until) (getD stand k notBegun .last) (getD bests k noBest) (h .each k in-two) n
+    pub over : getD share k noShare .size ≤ getD counting k notBegun .until → getD bests k noBest ≡ target k .best
+    over n = ends s c (began k) (target k) (to-come k i) (getD seen k []) (getD counting k notBegun .counted) (getD counting k notBegun .until) (getD counting k notBegun .last) (getD bests k noBest) (h .each k in-two) n
 
     -- no row is left
     pub all-met : s .rows ≤ i → getD bests k noBest ≡ target k .best
     all-met n =
-        finished s c (began k) (target k) (getD seen k []) (getD stand k notBegun .counted) (getD stand k notBegun .until) (getD stand k notBegun .last) (getD bests k noBest)
-        (subst (λ (rs : List ℕ). Stands s c (began k) (target k) rs (getD seen k []) (getD stand k notBegun .counted) (getD stand k notBegun .until) (getD stand k notBegun .last) (getD bests k noBest)) none (h .each k in-two))
+        finished s c (began k) (target k) (getD seen k []) (getD counting k notBegun .counted) (getD counting k notBegun .until) (getD counting k notBegun .last) (getD bests k noBest)
+        (subst (λ (rs : List ℕ). Stands s c (began k) (target k) rs (getD seen k []) (getD counting k notBegun .counted) (getD counting k notBegun .until) (getD counting k notBegun .last) (getD bests k noBest)) none (h .each k in-two))
       where
         nothing : those (mine sides k) (rowsToCome s c 0 i) ≡ []
         nothing = unfold rowsToCome in refl
@@ -186,14 +188,14 @@ module _ (s : Sheet) (sides : List ℕ) (c : ℕ) (own : List (List ℕ)) (share
             ap (λ (n : ℕ). those (mine sides k) (rowsToCome s c n i)) left ∙ nothing
 
 -- a row that is counted does not change how far its side's rows are skipped
-pub until-kept : (stand : List Stand) (side r k : ℕ) → length stand ≡ 2 → side < 2
-    → getD (set stand side (standAfter (getD stand side notBegun) r)) k notBegun .until ≡ getD stand k notBegun .until
-until-kept stand side r k two in-two =
-    let once = set-at stand side (standAfter (getD stand side notBegun) r) notBegun two in-two in
-    decide (eqb k side) (λ t. itself (eqb→eq k side t)) (λ t. ap (λ (w : Stand). w .until) (once .elsewhere k (neqb k side t)))
+pub until-kept : (counting : List Counting) (side r k : ℕ) → length counting ≡ 2 → side < 2
+    → getD (set counting side (countingAfter (getD counting side notBegun) r)) k notBegun .until ≡ getD counting k notBegun .until
+until-kept counting side r k two in-two =
+    let once = set-at counting side (countingAfter (getD counting side notBegun) r) notBegun two in-two in
+    decide (eqb k side) (λ t. itself (eqb→eq k side t)) (λ t. ap (λ (w : Counting). w .until) (once .elsewhere k (neqb k side t)))
   where
-    itself : k ≡ side → getD (set stand side (standAfter (getD stand side notBegun) r)) k notBegun .until ≡ getD stand k notBegun .until
-    itself e = rw e (ap (λ (w : Stand). w .until) (set-at stand side (standAfter (getD stand side notBegun) r) notBegun two in-two .at))
+    itself : k ≡ side → getD (set counting side (countingAfter (getD counting side notBegun) r)) k notBegun .until ≡ getD counting k notBegun .until
+    itself e = rw e (ap (λ (w : Counting). w .until) (set-at counting side (countingAfter (getD counting side notBegun) r) notBegun two in-two .at))
 
 -- ---- from a column's start to what it leaves
 
@@ -205,7 +207,7 @@ module _ (s : Sheet) (sides : List ℕ) (c : ℕ) (own : List (List ℕ)) (share
         within = omega arith;
         two-bests = two;
         two-seen = refl;
-        two-stand = refl;
+        two-counting = refl;
         each = λ k l. by-two
             (λ k. Stands s c (began s sides c own share firsts k) (target s sides c own share firsts k) (to-come s sides c own share firsts k 0) (getD (noRows ∷ noRows ∷ []) k [])
             (getD (notBegun ∷ notBegun ∷ []) k notBegun .counted) (getD (notBegun ∷ notBegun ∷ []) k notBegun .until) (getD (notBegun ∷ notBegun ∷ []) k notBegun .last) (getD firsts k noBest))

@@ -6,9 +6,10 @@ use mathlib.Core.List.{List}
 use Rattle.basics.specs.Choice.{pick}
 use Rattle.sheet.specs.Sheet.{Sheet, valueOf, labelOf, rowAt, orderOf}
 use Rattle.sheet.specs.Sound.{Sound}
+use Rattle.sheet.specs.Rows.{rowsAt}
 use Rattle.leaves_score.specs.declared.two_sides.Two.{Two}
 use Rattle.side_scan.specs.OneSide.{restarted, sideOf}
-use Rattle.leaves_score.specs.Column.{sizeOf, labelled, ownOf, sideAtStart, stepBoth, ended, scanRows, scanColumn}
+use Rattle.leaves_score.specs.Column.{labelled, ownOf, sideAtStart, stepBoth, ended, scanRows, scanColumn}
 use Rattle.leaves_score.specs.Scan.{perfect, scanColumns, startBoth, scanned, sidesOf}
 use Rattle.leaves_score.specs.Lists.{scanOf, Lent, Scannable}
 
@@ -57,7 +58,7 @@ module _ (s : Sheet) (mark : ℕ → Bool) where
       ∙ ap (λ (x : Two). pick (perfect next) next x) (columns-alike n (suc c) next)
 
   start-alike : (support : ℕ) → startBoth (scanOf s) support mark ≡ startBoth s support mark
-  unfolding startBoth sideAtStart ownOf labelled labelOf sizeOf
+  unfolding startBoth sideAtStart ownOf labelled labelOf rowsAt
   start-alike support = refl
 
   pub same-sides : (support : ℕ) → sidesOf (scanOf s) support mark ≡ sidesOf s support mark

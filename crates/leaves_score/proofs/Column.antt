@@ -20,10 +20,11 @@ use Rattle.side_scan.specs.declared.cut_score.Cut.{Cut}
 use Rattle.side_scan.specs.declared.cut_score.CutVerdict.{CutVerdict}
 use Rattle.side_scan.specs.declared.SideScan.{SideScan}
 use Rattle.side_scan.specs.Counts.{noRows, peaksOf}
-use Rattle.side_scan.specs.Scored.{fallen, verdictOf, splitBy, passed, untilAfter, cutScored, Scorable}
+use Rattle.side_scan.specs.Scored.{fallen, verdictOf, splitBy}
+use Rattle.side_scan.specs.Passing.{passed, untilAfter, cutScored, Scorable}
 use Rattle.side_scan.specs.OneSide.{nought, restarted, quiet, rowsLeft, rightBest, supported, verdictAt, takes, bestAfter, skipAfter, closes, totalOf, raised, countRow, onlyCounted, scored, atStart}
-use Rattle.leaves_score.specs.Column.{rowStep}
-use Rattle.leaves_score.specs.Kept.{through, CountsKept, Open, Live}
+use Rattle.leaves_score.specs.Column.{rowStep, through}
+use Rattle.leaves_score.specs.Kept.{CountsKept, Open, Live}
 use Rattle.leaves_score.proofs.Counts.{counts-step}
 use Rattle.leaves_score.proofs.Live.{open-counted, open-scored}
 use Rattle.leaves_score.proofs.Single.{shut, frozen}

@@ -13,16 +13,17 @@ use Rattle.basics.proofs.Choice.{by-test, bit-and}
 use Rattle.basics.proofs.Lists.{tally-le, tally-mono, getD-table, length-table}
 use Rattle.sheet.specs.Limits.{mostLabels}
 use Rattle.sheet.specs.Sheet.{Sheet, valueOf, labelOf, rowAt, everyRow}
+use Rattle.sheet.specs.Rows.{rowsAt}
 use Rattle.sheet.proofs.Index.{column-in}
 use Rattle.side_scan.specs.declared.SideScan.{SideScan}
 use Rattle.leaves_score.specs.declared.two_sides.Two.{Two}
 use Rattle.side_scan.specs.OneSide.{restarted, leafLabel, leafScore, sideOf}
-use Rattle.leaves_score.specs.Column.{other, sizeOf, labelled, ownOf, rowStep, stepBoth, ended, scanRows, scanColumn}
+use Rattle.leaves_score.specs.Column.{other, labelled, ownOf, rowStep, stepBoth, ended, scanRows, scanColumn}
 use Rattle.leaves_score.specs.Scan.{perfect, scanColumns, startBoth, scanned}
 use Rattle.leaves_score.specs.Kept.{Alike, BothAlike, Owns}
 use Rattle.side_scan.specs.Step.{SideSized}
-use Rattle.leaves_score.specs.SideLists.{goLeft, SidesNumbered, ReadyColumn}
-use Rattle.leaves_score.specs.Lists.{Scannable}
+use Rattle.leaves_score.specs.SideLists.{SidesNumbered, ReadyColumn}
+use Rattle.leaves_score.specs.Lists.{Scannable, goLeft}
 use Rattle.leaves_score.proofs.Live.{left-is, right-is, owns-step, owns-cleared, owns-start, rows-order, begin-live}
 
 -- ---- both sides keep their own numbers
@@ -76,7 +77,7 @@ module _ (s : Sheet) (support : ℕ) (mark : ℕ → Bool) where
 
 module _ (s : Sheet) (support : ℕ) (mine : ℕ → Bool) (t : SideScan) (h : Owns s support mine t) where
   size-in : t .size ≤ s .rows
-  unfolding sizeOf
+  unfolding rowsAt
   size-in = omega (arith, h .size-is, tally-le mine (everyRow s), length-table (λ (r : ℕ). r) (s .rows))
 
   own-at : (l : ℕ) → l < mostLabels → getD (t .own) l 0 ≡ tally (λ r. mine r && eqb (labelOf s r) l) (everyRow s)
@@ -85,7 +86,7 @@ module _ (s : Sheet) (support : ℕ) (mine : ℕ → Bool) (t : SideScan) (h : O
       ∙ unfold ownOf labelled in getD-table (λ l. tally (λ r. mine r && eqb (labelOf s r) l) (everyRow s)) mostLabels l 0 k
 
   pub sized : 1 ≤ s .labels → s .labels ≤ mostLabels → SideSized t
-  unfolding sizeOf
+  unfolding rowsAt
   sized some most =
       record {
         some = rw (h .labels-is) some;

@@ -18,7 +18,7 @@ use Rattle.sheet.specs.Sheet.{Sheet, labelOf}
 use Rattle.side_scan.specs.declared.SideScan.{SideScan}
 use Rattle.side_scan.specs.declared.cut_score.Best.{Best}
 use Rattle.side_scan.specs.Counts.{noRows, peaksOf}
-use Rattle.side_scan.specs.OneSide.{restarted, before, later, rowsLeft, leftBest, rightBest, totalOf, raised, countRow}
+use Rattle.side_scan.specs.OneSide.{restarted, countedOf, later, rowsLeft, leftBest, rightBest, totalOf, raised, countRow}
 use Rattle.leaves_score.specs.Kept.{CountsKept, Fits}
 use Rattle.side_scan.proofs.Commonest.{most-near, most-under}
 
@@ -67,7 +67,7 @@ module _ (s : Sheet) (r : ℕ) (rs : List ℕ) (t : SideScan) (h : Fits s (r ∷
   pub left-step : leftBest (countRow t b skip closed (labelOf s r) v) ≤ leftBest t + 1
   unfolding peaksOf countRow
   left-step =
-      most-near (before t) (λ l. getD (raised (t .seen) (labelOf s r)) l 0) (t .labels) 1 (h .some)
+      most-near (countedOf t) (λ l. getD (raised (t .seen) (labelOf s r)) l 0) (t .labels) 1 (h .some)
       (λ l k. omega (arith, step-at s r rs (t .own) (t .seen) (t .labels) (t .size) (t .counted) h l k, bit-le (eqb (labelOf s r) l)))
 
   pub right-step : rightBest (countRow t b skip closed (labelOf s r) v) ≤ rightBest t
@@ -94,7 +94,7 @@ module _ (s : Sheet) (rest : List ℕ) (t : SideScan) (h : Fits s rest t) where
 
   pub left-few : leftBest t ≤ t .counted
   unfolding peaksOf
-  left-few = most-under (before t) (t .labels) (t .counted) (h .some) (h .few)
+  left-few = most-under (countedOf t) (t .labels) (t .counted) (h .some) (h .few)
 
   pub right-few : rightBest t ≤ length rest
   unfolding peaksOf

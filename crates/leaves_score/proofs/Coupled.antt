@@ -10,8 +10,8 @@ use Rattle.basics.proofs.Choice.{by-test, either, and-left, and-right, or-left,
 use Rattle.sheet.specs.Sheet.{Sheet, rowAt}
 use Rattle.leaves_score.specs.declared.two_sides.Two.{Two}
 use Rattle.side_scan.specs.OneSide.{restarted}
-use Rattle.leaves_score.specs.Column.{other, stepBoth, idle, ended, scanRows}
-use Rattle.leaves_score.specs.Kept.{rowsToCome, through, Alike, Live}
+use Rattle.leaves_score.specs.Column.{other, stepBoth, idle, ended, scanRows, through}
+use Rattle.leaves_score.specs.Kept.{rowsToCome, Alike, Live}
 use Rattle.leaves_score.proofs.Live.{left-is, right-is, live-left, live-right}
 use Rattle.leaves_score.proofs.Single.{stays, runs-at}
 

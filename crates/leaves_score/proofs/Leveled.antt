@@ -10,10 +10,11 @@ use Rattle.side_scan.specs.declared.SideScan.{SideScan}
 use Rattle.side_scan.specs.declared.cut_score.Best.{Best}
 use Rattle.leaves_score.specs.declared.two_sides.Two.{Two}
 use Rattle.side_scan.specs.OneSide.{restarted, countRow, onlyCounted, scored, stepOf, atStart}
-use Rattle.leaves_score.specs.Column.{other, rowStep, scanColumn}
-use Rattle.leaves_score.specs.Kept.{rowsToCome, through, BothAlike}
-use Rattle.side_scan.specs.Step.{shareOf}
-use Rattle.leaves_score.specs.SideLists.{goLeft, noBest, bothAt, ReadyColumn, Found}
+use Rattle.leaves_score.specs.Column.{other, rowStep, scanColumn, through}
+use Rattle.leaves_score.specs.Kept.{rowsToCome, BothAlike}
+use Rattle.side_scan.specs.Passing.{shareOf}
+use Rattle.leaves_score.specs.SideLists.{noBest, bothAt, ReadyColumn, Found}
+use Rattle.leaves_score.specs.Lists.{goLeft}
 use Rattle.leaves_score.proofs.Live.{step-any}
 use Rattle.leaves_score.proofs.Coupled.{both-rows as coupled-rows}
 

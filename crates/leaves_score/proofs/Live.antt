@@ -15,12 +15,13 @@ use Rattle.basics.proofs.Lists.{length-those, tally-those, getD-table, table-sa
 use Rattle.sheet.specs.Limits.{mostLabels}
 use Rattle.sheet.specs.Sheet.{Sheet, valueOf, labelOf, rowAt, everyRow, orderOf}
 use Rattle.sheet.specs.Sound.{Limited, Sound}
+use Rattle.sheet.specs.Rows.{rowsAt}
 use Rattle.side_scan.specs.declared.SideScan.{SideScan}
 use Rattle.side_scan.specs.declared.cut_score.Best.{Best}
 use Rattle.leaves_score.specs.declared.two_sides.Two.{Two}
 use Rattle.side_scan.specs.Scored.{fallen, verdictOf}
 use Rattle.side_scan.specs.OneSide.{restarted, quiet, totalOf, supported, takes, splitAt, bestAfter, skipAfter, closes, countRow, onlyCounted, scored, stepOf}
-use Rattle.leaves_score.specs.Column.{other, sizeOf, labelled, ownOf, sideAtStart, rowStep, stepBoth}
+use Rattle.leaves_score.specs.Column.{other, labelled, ownOf, sideAtStart, rowStep, stepBoth}
 use Rattle.leaves_score.specs.Kept.{rowsToCome, Owns, Fits, Open, Live}
 use Rattle.leaves_score.proofs.Counts.{fits-step, total-step, fits-cleared}
 
@@ -181,7 +182,7 @@ module _ (s : Sheet) (limited : Limited s) (support : ℕ) (mine : ℕ → Bool)
       fits-cleared s (those mine (orderOf s c)) t
       (rw (owns .labels-is) (limited .labels-some))
       (rw (owns .labels-is) (limited .labels-most))
-      (length-those mine (orderOf s c) ∙ each mine ∙ sym (unfold sizeOf in owns .size-is))
+      (length-those mine (orderOf s c) ∙ each mine ∙ sym (unfold rowsAt in owns .size-is))
       (λ l k. tally-those mine (λ r. eqb (labelOf s r) l) (orderOf s c) ∙ each (λ r. mine r && eqb (labelOf s r) l) ∙ sym (unfold labelled in own-at s support mine t owns l (in-range l k)))
     where
       in-range : (l : ℕ) → l < t .labels → l < mostLabels

@@ -11,11 +11,12 @@ use Rattle.basics.specs.Lists.{tally, table}
 use Rattle.basics.proofs.Lists.{table-same}
 use Rattle.sheet.specs.Limits.{mostLabels}
 use Rattle.sheet.specs.Sheet.{Sheet, labelOf, rowAt, everyRow, leastRows}
+use Rattle.sheet.specs.Rows.{rowsAt}
 use Rattle.leaves_score.specs.declared.two_sides.Two.{Two}
 use Rattle.side_scan.specs.declared.SideScan.{SideScan}
 use Rattle.side_scan.specs.Commonest.{mostOf}
 use Rattle.side_scan.specs.OneSide.{leafBest, restarted, sideOf, atStart}
-use Rattle.leaves_score.specs.Column.{other, sizeOf, labelled, ownOf, sideAtStart, rowStep, stepBoth, ended, scanRows, scanColumn}
+use Rattle.leaves_score.specs.Column.{other, labelled, ownOf, sideAtStart, rowStep, stepBoth, ended, scanRows, scanColumn}
 use Rattle.leaves_score.specs.Scan.{perfect, scanColumns, startBoth, scanned, sidesOf}
 
 tally-table : (p q : ℕ → Bool) (f : ℕ → ℕ) (n : ℕ) → ((k : ℕ) → k < n → bit (p (f k)) ≡ bit (q (f k))) → tally p (table f n) ≡ tally q (table f n)
@@ -27,7 +28,7 @@ pub rows-alike : (s : Sheet) (p q : ℕ → Bool) → ((r : ℕ) → r < s .rows
 rows-alike s p q h = tally-table p q (λ r. r) (s .rows) h
 
 start-alike : (s : Sheet) (support : ℕ) (p q : ℕ → Bool) → ((r : ℕ) → r < s .rows → p r ≡ q r) → sideAtStart s support p ≡ sideAtStart s support q
-unfolding sideAtStart ownOf sizeOf labelled
+unfolding sideAtStart ownOf rowsAt labelled
 start-alike s support p q same =
     ap₂ (λ (own : List ℕ) (size : ℕ). atStart own size (s .labels) (leastRows support) (leafBest (mostOf (λ l. getD own l 0) (s .labels))))
     (table-same (labelled s p) (labelled s q) mostLabels

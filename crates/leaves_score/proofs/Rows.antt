@@ -14,10 +14,12 @@ use Rattle.basics.proofs.Choice.{reach}
 use Rattle.basics.proofs.Lists.{tally-le, getD-table, length-table}
 use Rattle.sheet.specs.Limits.{mostLabels}
 use Rattle.sheet.specs.Sheet.{labelOf}
+use Rattle.sheet.specs.Rows.{rowsAt}
 use Rattle.side_scan.specs.Counts.{noRows}
 use Rattle.side_scan.specs.OneSide.{raised}
-use Rattle.leaves_score.specs.Column.{other, sizeOf, labelled, ownOf}
-use Rattle.leaves_score.specs.SideLists.{goLeft, sideNumber, SidesNumbered, rowsOnly}
+use Rattle.leaves_score.specs.Column.{other, labelled, ownOf}
+use Rattle.leaves_score.specs.SideLists.{sideNumber, SidesNumbered, rowsOnly}
+use Rattle.leaves_score.specs.Lists.{goLeft}
 use Rattle.leaves_score.proofs.Counts.{raised-at, raised-long, none-at}
 
 -- what holds of both sides' numbers
@@ -99,8 +101,8 @@ module _ (codes : List ℕ) (mine : ℕ → Bool) where
         within : (l : ℕ) → l < length own → l < mostLabels
         within l h = omega (arith, t .long)
 
-    pub size-is : size ≡ sizeOf (rowsOnly n codes) mine
-    unfolding sizeOf
+    pub size-is : size ≡ rowsAt (rowsOnly n codes) mine
+    unfolding rowsAt
     size-is = t .all
 
 -- ---- both sides, their counts by number

@@ -14,8 +14,8 @@ use Rattle.sheet.specs.Sheet.{Sheet, valueOf, labelOf}
 use Rattle.side_scan.specs.declared.SideScan.{SideScan}
 use Rattle.side_scan.specs.declared.cut_score.Best.{Best}
 use Rattle.side_scan.specs.OneSide.{restarted, rowsLeft, bestAfter, countRow, onlyCounted, scored, atStart}
-use Rattle.leaves_score.specs.Column.{rowStep, idle}
-use Rattle.leaves_score.specs.Kept.{through, Live, Owns}
+use Rattle.leaves_score.specs.Column.{rowStep, idle, through}
+use Rattle.leaves_score.specs.Kept.{Live, Owns}
 use Rattle.leaves_score.proofs.Counts.{total-few, rows-left}
 use Rattle.leaves_score.proofs.Live.{best-left, takes-not, skip-low, step-open, step-closed, open-counted, open-scored, owns-step}
 

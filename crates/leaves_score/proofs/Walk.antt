@@ -16,9 +16,10 @@ use Rattle.side_scan.specs.declared.SideScan.{SideScan}
 use Rattle.side_scan.specs.OneSide.{restarted, countRow, onlyCounted, scored, stepOf}
 use Rattle.side_scan.specs.Step.{Ready, Steppable}
 use Rattle.leaves_score.specs.declared.two_sides.Two.{Two}
-use Rattle.leaves_score.specs.Column.{rowStep, scanColumn}
-use Rattle.leaves_score.specs.Kept.{rowsToCome, through, BothAlike, Fits, Live}
-use Rattle.leaves_score.specs.SideLists.{goLeft, mine, ReadyColumn, ReadySide, walked}
+use Rattle.leaves_score.specs.Column.{rowStep, scanColumn, through}
+use Rattle.leaves_score.specs.Kept.{rowsToCome, BothAlike, Fits, Live}
+use Rattle.leaves_score.specs.SideLists.{mine, ReadyColumn, ReadySide, walked}
+use Rattle.leaves_score.specs.Lists.{goLeft}
 use Rattle.leaves_score.proofs.Counts.{later-is}
 use Rattle.leaves_score.proofs.Live.{step-any, live-step}
 use Rattle.leaves_score.proofs.Coupled.{both-rows}

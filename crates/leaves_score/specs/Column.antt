@@ -1,13 +1,14 @@
--- A side's own rows, and the scan of a column of both sides (document 01, "Scan of the two sides"): the column's rows, each advancing its own side. `mark r` says that
--- row r goes to the left side; what a row does to its side is `stepOf` (side_scan). Definitions only.
+-- For a signer. A side's own rows, and the scan of a column of both sides (document 01, "Scan of the two sides"): the column's rows, each advancing its own side.
+-- `mark r` says that row r goes to the left side; what a row does to its side is `stepOf` (side_scan). Definitions only.
 use Prim.Native.Nat.{ℕ, zero, suc}
 use mathlib.Core.Bool.{Bool, not, _&&_, _||_}
-use mathlib.Core.List.{List}
+use mathlib.Core.List.{List, [], _∷_}
 use lib.Dec.{leb, eqb}
 use Rattle.basics.specs.Choice.{pick}
 use Rattle.basics.specs.Lists.{tally, table}
 use Rattle.sheet.specs.Limits.{mostLabels}
 use Rattle.sheet.specs.Sheet.{Sheet, valueOf, labelOf, rowAt, everyRow, leastRows}
+use Rattle.sheet.specs.Rows.{rowsAt}
 use Rattle.side_scan.specs.declared.SideScan.{SideScan}
 use Rattle.side_scan.specs.OneSide.{restarted, rowsLeft, stepOf}
 use Rattle.side_scan.specs.Step.{leafScan}
@@ -19,10 +20,7 @@ use Rattle.leaves_score.specs.declared.two_sides.Two.{Two}
 abbrev pub other : (ℕ → Bool) → ℕ → Bool
 other mark r = not (mark r)
 
--- how many rows a side has, and how many of each label
-unfoldable pub sizeOf : Sheet → (ℕ → Bool) → ℕ
-sizeOf s mine = tally mine (everyRow s)
-
+-- how many rows of each label a side has
 unfoldable pub labelled : Sheet → (ℕ → Bool) → ℕ → ℕ
 labelled s mine l = tally (λ r. mine r && eqb (labelOf s r) l) (everyRow s)
 
@@ -31,12 +29,17 @@ ownOf s mine = table (labelled s mine) mostLabels
 
 -- "A side starts as a leaf: its commonest label, smallest code on ties; its score is that count."
 unfoldable pub sideAtStart : Sheet → ℕ → (ℕ → Bool) → SideScan
-sideAtStart s support mine = leafScan (ownOf s mine) (sizeOf s mine) (s .labels) (leastRows support)
+sideAtStart s support mine = leafScan (ownOf s mine) (rowsAt s mine) (s .labels) (leastRows support)
 
 -- ---- a column, both sides
 
 abbrev pub rowStep : Sheet → ℕ → ℕ → SideScan → SideScan
 rowStep s c r t = stepOf t c (labelOf s r) (valueOf s c r)
+
+-- one side by itself: the rows of a list, one after another
+unfoldable pub through : Sheet → ℕ → List ℕ → SideScan → SideScan
+through s c [] t = t
+through s c (r ∷ rs) t = through s c rs (rowStep s c r t)
 
 -- "each row advancing its own side"
 unfoldable pub stepBoth : Sheet → (ℕ → Bool) → ℕ → ℕ → Two → Two

@@ -1,4 +1,4 @@
--- What the scan of a side keeps. Statements only; `proofs/` shows that every row keeps it.
+-- For proofs only. What the scan of a side keeps. Statements only; `proofs/` shows that every row keeps it.
 use mathlib.Core.Path.{_≡_}
 use Prim.Native.Nat.{ℕ, zero, suc, _+_, _≤_, _<_}
 use mathlib.Core.Bool.{Bool, not}
@@ -8,20 +8,16 @@ use lib.Dec.{T, eqb}
 use Rattle.basics.specs.Lists.{tally}
 use Rattle.sheet.specs.Limits.{mostLabels}
 use Rattle.sheet.specs.Sheet.{Sheet, labelOf, rowAt, leastRows}
+use Rattle.sheet.specs.Rows.{rowsAt}
 use Rattle.side_scan.specs.declared.SideScan.{SideScan}
 use Rattle.leaves_score.specs.declared.two_sides.Two.{Two}
 use Rattle.side_scan.specs.OneSide.{restarted, totalOf}
-use Rattle.leaves_score.specs.Column.{sizeOf, ownOf, rowStep}
+use Rattle.leaves_score.specs.Column.{ownOf}
 
 -- the rows at the n places from i on
 unfoldable pub rowsToCome : Sheet → ℕ → ℕ → ℕ → List ℕ
 rowsToCome s c zero i = []
 rowsToCome s c (suc n) i = rowAt s c i ∷ rowsToCome s c n (suc i)
-
--- one side by itself: the rows of a list, one after another
-unfoldable pub through : Sheet → ℕ → List ℕ → SideScan → SideScan
-through s c [] t = t
-through s c (r ∷ rs) t = through s c rs (rowStep s c r t)
 
 -- what crosses from a column to the next is the same: all but the counts, skip, closed mark and previous value
 abbrev pub Alike : SideScan → SideScan → Type 0
@@ -34,7 +30,7 @@ pub record BothAlike (a b : Two) : Type 0 where
 -- a side's own numbers are those of its rows
 pub record OwnNumbers (s : Sheet) (support : ℕ) (mine : ℕ → Bool) (own : List ℕ) (size labels least : ℕ) : Type 0 where
   pub own-is : own ≡ ownOf s mine
-  pub size-is : size ≡ sizeOf s mine
+  pub size-is : size ≡ rowsAt s mine
   pub labels-is : labels ≡ s .labels
   pub least-is : least ≡ leastRows support
 

@@ -1,4 +1,4 @@
--- Document 01, "Easy to get wrong": "a side A,A,B,B,B,B of distinct values at support 3 stays a leaf with 2 errors though 1 is possible". The cut after
+-- For a signer. Document 01, "Easy to get wrong": "a side A,A,B,B,B,B of distinct values at support 3 stays a leaf with 2 errors though 1 is possible". The cut after
 -- the second row leaves a pure remainder but has too few rows on its left; it closes the side all the same. Statements only; `proofs/Recorded.antt` computes them.
 use mathlib.Core.Path.{_≡_}
 use Prim.Native.Nat.{ℕ}

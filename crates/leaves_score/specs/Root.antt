@@ -1,9 +1,9 @@
--- The sides of a root split at a cut of a column (document 01, "Search", step 3). Definitions only.
+-- For a signer. The sides of a root split at a cut of a column (document 01, "Search", step 3). Definitions only.
 use Prim.Native.Nat.{ℕ, zero, suc}
-use mathlib.Core.Bool.{Bool}
 use lib.Ieee.{Float}
-use Rattle.threshold.specs.Threshold.{thresholdOf, goesLeft}
-use Rattle.sheet.specs.Sheet.{Sheet, valueOf, valueAt, placeOf}
+use Rattle.threshold.specs.Threshold.{thresholdOf}
+use Rattle.sheet.specs.Sheet.{Sheet, valueAt, placeOf}
+use Rattle.sheet.specs.Rows.{sentLeft}
 use Rattle.tree.specs.Answer.{sideError}
 use Rattle.tree.specs.declared.Question.{Question}
 use Rattle.leaves_score.specs.declared.Sides.{Sides}
@@ -21,13 +21,9 @@ cutThreshold s c k = thresholdOf (valueAt s c (precedingPlace s c k)) (valueAt s
 abbrev pub cutQuestion : Sheet → ℕ → ℕ → Question
 cutQuestion s c k = record { column = c; threshold = cutThreshold s c k }
 
--- "Rows with value ≤ threshold go left.": what a question does with a row
-unfoldable pub markOf : Sheet → Question → ℕ → Bool
-markOf s q r = goesLeft (valueOf s (q .column) r) (q .threshold)
-
 -- the two sides at cut number k of column c
 unfoldable pub sidesAt : Sheet → ℕ → ℕ → ℕ → Sides
-sidesAt s support c k = sidesOf s support (markOf s (cutQuestion s c k))
+sidesAt s support c k = sidesOf s support (sentLeft s (cutQuestion s c k))
 
 -- their errors, which the search of a column goes by
 unfoldable pub errorsAt : Sheet → ℕ → ℕ → ℕ → ℕ × ℕ

@@ -1,14 +1,15 @@
--- The scan of the two sides of a root split (document 01, "Scan of the two sides"): all columns, and the sides that it ends in. `mark r` says that row r goes to the
--- left side; the scan of one column is `scanColumn` (two_sides). Definitions only.
+-- For a signer. The scan of the two sides of a root split (document 01, "Scan of the two sides"): all columns, and the sides that it ends in. `mark r` says that
+-- row r goes to the left side; the scan of one column is `scanColumn` (Column). Definitions only.
 use Prim.Native.Nat.{ℕ, zero, suc}
 use mathlib.Core.Bool.{Bool, _&&_}
 use lib.Dec.{eqb}
 use Rattle.basics.specs.Choice.{pick}
 use Rattle.sheet.specs.Sheet.{Sheet}
+use Rattle.sheet.specs.Rows.{rowsAt}
 use Rattle.side_scan.specs.OneSide as one
 use Rattle.side_scan.specs.OneSide.{sideOf}
 use Rattle.leaves_score.specs.declared.two_sides.Two.{Two}
-use Rattle.leaves_score.specs.Column.{other, sizeOf, labelled, ownOf, sideAtStart, stepBoth, idle, ended, scanRows, scanColumn}
+use Rattle.leaves_score.specs.Column.{other, labelled, ownOf, sideAtStart, stepBoth, idle, ended, scanRows, scanColumn}
 use Rattle.leaves_score.specs.declared.Sides.{Sides}
 
 -- ---- all columns
@@ -41,5 +42,5 @@ sidesOf s support mark =
 
 -- `unfolding scanComputes` opens every definition of the scan at once
 unfoldable pub scanComputes : Unit {0}
-unfolding pick one.sideComputes sizeOf labelled ownOf sideAtStart stepBoth idle ended scanRows scanColumn perfect scanColumns startBoth scanned sidesOf
+unfolding pick one.sideComputes rowsAt labelled ownOf sideAtStart stepBoth idle ended scanRows scanColumn perfect scanColumns startBoth scanned sidesOf
 scanComputes = tt

@@ -1,35 +1,29 @@
--- What the scan of a column reads of the lent lists, and what it goes by: facts that an accepted sheet has. Definitions and statements only.
+-- For proofs only. What the scan of a column reads of the lent lists, and what its functions go by and leave.
 use mathlib.Core.Path.{_≡_}
-use Prim.Native.Nat.{ℕ, _+_, _*_, _≤_, _<_}
+use Prim.Native.Nat.{ℕ, _+_, _-_, _*_, _≤_, _<_}
 use mathlib.Core.Bool.{Bool, _&&_}
 use mathlib.Core.List.{List, []}
 use lib.ListN.{length, getD}
-use lib.Dec.{leb, eqb}
+use lib.Dec.{leb}
 use lib.Ieee.{Float, nan}
 use Rattle.basics.specs.Choice.{pick}
 use Rattle.basics.specs.Lists.{those}
 use Rattle.sheet.specs.Limits.{mostLabels, mostRows}
 use Rattle.sheet.specs.Sheet.{Sheet, labelOf, rowAt}
-use Rattle.sheet.specs.declared.Size.{Size}
+use Rattle.sheet.specs.Rows.{rowsAt}
 use Rattle.leaves_score.specs.declared.two_sides.Parted.{Parted}
+use Rattle.side_scan.specs.declared.best_counts.Peaks.{Peaks}
 use Rattle.side_scan.specs.declared.cut_score.Best.{Best}
 use Rattle.side_scan.specs.declared.cut_score.Share.{Share}
-use Rattle.side_scan.specs.declared.cut_score.Stand.{Stand}
+use Rattle.side_scan.specs.declared.cut_score.Counting.{Counting}
 use Rattle.side_scan.specs.declared.SideScan.{SideScan}
 use Rattle.leaves_score.specs.declared.two_sides.Two.{Two}
 use Rattle.side_scan.specs.OneSide.{blankBest, restarted, atStart}
-use Rattle.leaves_score.specs.Column.{other, sizeOf, ownOf, scanColumn}
-use Rattle.leaves_score.specs.Kept.{rowsToCome, through, Live}
-use Rattle.side_scan.specs.Scored.{notBegun}
-
--- the sheet that a scan reads: cuts are no part of it
-abbrev pub scanSheet : Size → List Float → List ℕ → List ℕ → Sheet
-scanSheet size values codes order =
-    record { rows = size .rows; columns = size .columns; labels = size .labels; values = values; codes = codes; order = order; cuts = []; counts = [] }
-
--- a row whose mark is 0 goes left
-abbrev pub goLeft : List ℕ → ℕ → Bool
-goLeft marks r = eqb (getD marks r 0) 0
+use Rattle.leaves_score.specs.Column.{other, ownOf, scanColumn, through}
+use Rattle.leaves_score.specs.Lists.{goLeft}
+use Rattle.leaves_score.specs.Kept.{rowsToCome, Live}
+use Rattle.side_scan.specs.Scored.{splitBy}
+use Rattle.side_scan.specs.Passing.{notBegun}
 
 -- ---- the rows parted among the sides
 
@@ -41,9 +35,9 @@ unfoldable pub partedOf : ℕ → List ℕ → List ℕ → Parted
 partedOf rows codes marks =
     record {
       own = ownOf (rowsOnly rows codes) (goLeft marks);
-      size = sizeOf (rowsOnly rows codes) (goLeft marks);
+      size = rowsAt (rowsOnly rows codes) (goLeft marks);
       other = ownOf (rowsOnly rows codes) (other (goLeft marks));
-      rest = sizeOf (rowsOnly rows codes) (other (goLeft marks));
+      rest = rowsAt (rowsOnly rows codes) (other (goLeft marks));
     }
 
 pub record ReadyRows (rows : ℕ) (codes marks : List ℕ) : Type 0 where
@@ -60,6 +54,10 @@ sideNumber marks r = pick (goLeft marks r) 0 1
 abbrev pub SidesNumbered : ℕ → List ℕ → List ℕ → Type 0
 SidesNumbered n marks sides = (r : ℕ) → r < n → getD sides r 0 ≡ sideNumber marks r
 
+-- what the rows parted leave: how many each side has, and each row's side by its number
+abbrev pub PartedTo : ℕ → List ℕ → List ℕ → Parted → List ℕ → Type 0
+PartedTo rows codes marks r sides = (r ≡ partedOf rows codes marks) × SidesNumbered rows marks sides
+
 -- what a list by the side's number has past its end
 abbrev pub noShare : Share
 noShare = record { size = 0; least = 0; labels = 0 }
@@ -75,11 +73,21 @@ abbrev pub bothAt : List (List ℕ) → List Share → List Best → Two
 bothAt own share best = record { left = atNumber own share best 0; right = atNumber own share best 1 }
 
 -- a side's rows are skipped to its end
-abbrev pub skipsAll : List Stand → List Share → ℕ → Bool
-skipsAll stand share k = leb (getD share k noShare .size) (getD stand k notBegun .until)
+abbrev pub skipsAll : List Counting → List Share → ℕ → Bool
+skipsAll counting share k = leb (getD share k noShare .size) (getD counting k notBegun .until)
 
-abbrev pub bothSkip : List Stand → List Share → Bool
-bothSkip stand share = skipsAll stand share 1 && skipsAll stand share 0
+abbrev pub bothSkip : List Counting → List Share → Bool
+bothSkip counting share = skipsAll counting share 1 && skipsAll counting share 0
+
+-- the cut between a side's last row and this one, with the best counts about it, makes a split
+abbrev pub Splittable : Peaks → Share → Counting → List Float → ℕ → ℕ → Type 0
+Splittable peaks share counting values base row =
+    (peaks .before ≤ counting .counted) × (counting .counted ≤ share .size) × (peaks .after ≤ share .size - counting .counted) × (share .size ≤ mostRows)
+    × (base + counting .last < length values) × (base + row < length values)
+
+abbrev pub splitHere : Peaks → Share → Counting → ℕ → List Float → ℕ → ℕ → Best
+splitHere peaks share counting column values base row =
+    splitBy peaks (counting .counted) (share .size - counting .counted) column (getD values (base + counting .last) nan) (getD values (base + row) nan)
 
 -- What the scan of a column goes by: the lists are long enough, the order's entries are rows, the rows' codes are labels, and the rows to come add up to
 -- each side's own.

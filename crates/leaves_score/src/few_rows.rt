@@ -5,7 +5,9 @@ ghost use lib.Dec.{eqb};
 ghost use Rattle.basics.specs.Choice.{pick};
 ghost use Rattle.leaves_score.specs.Column.{scanColumn};
 ghost use Rattle.leaves_score.specs.Kept.{BothAlike};
-ghost use Rattle.leaves_score.specs.SideLists.{scanSheet, goLeft, ReadyColumn, ReadySide, walked};
+ghost use Rattle.leaves_score.specs.SideLists.{ReadyColumn, ReadySide, walked};
+ghost use Rattle.leaves_score.specs.Lists.{scanSheet, goLeft};
+ghost use Rattle.basics.specs.Lent.{before};
 use crate::two_sides::Two;
 use basics::wide_byte;
 use basics::wide_entry;
@@ -32,7 +34,7 @@ fn walk_side(
     sides: &[u8; MOST_ROWS],
 ) -> SideScan
     requires { ⌜ ReadySide (scanSheet size (now values) (now codes) (now order)) (now sides) column left side ⌝ }
-    ensures { λ r. ⌜ r ≡ walked (scanSheet size (now (values .entry)) (now (codes .entry)) (now (order .entry))) (now (sides .entry)) column left side ⌝ }
+    ensures { λ r. ⌜ r ≡ walked (scanSheet size (before values) (before codes) (before order)) (before sides) column left side ⌝ }
 {
     let mut next = side_scan::restart(side);
     let base = column * size.rows;
@@ -60,7 +62,7 @@ pub(crate) fn scan_few(
     sides: &[u8; MOST_ROWS],
 ) -> Two
     requires { ⌜ ReadyColumn (scanSheet size (now values) (now codes) (now order)) (now sides) column both ⌝ }
-    ensures { λ r. ⌜ BothAlike r (scanColumn (scanSheet size (now (values .entry)) (now (codes .entry)) (now (order .entry))) (goLeft (now (sides .entry))) column both) ⌝ }
+    ensures { λ r. ⌜ BothAlike r (scanColumn (scanSheet size (before values) (before codes) (before order)) (goLeft (before sides)) column both) ⌝ }
 {
     let first = both.left;
     let second = both.right;

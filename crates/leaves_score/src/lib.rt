@@ -7,9 +7,10 @@ ghost use mathlib.Core.Path.{_≡_};
 ghost use Rattle.sheet.specs.Sheet.{leastRows};
 ghost use Rattle.leaves_score.specs.Column.{scanColumn};
 ghost use Rattle.leaves_score.specs.Kept.{BothAlike};
-ghost use Rattle.leaves_score.specs.SideLists.{scanSheet, goLeft, ReadyColumn};
+ghost use Rattle.leaves_score.specs.SideLists.{ReadyColumn};
 ghost use Rattle.leaves_score.specs.Scan.{perfect, scanned, sidesOf};
-ghost use Rattle.leaves_score.specs.Lists.{Scannable};
+ghost use Rattle.leaves_score.specs.Lists.{Scannable, scanSheet, goLeft};
+ghost use Rattle.basics.specs.Lent.{before};
 use crate::few_rows::scan_few;
 use crate::many_rows::scan_many;
 use crate::two_sides::Two;
@@ -38,7 +39,7 @@ fn scan_column(
     sides: &[u8; MOST_ROWS],
 ) -> Two
     requires { ⌜ ReadyColumn (scanSheet size (now values) (now codes) (now order)) (now sides) column both ⌝ }
-    ensures { λ r. ⌜ BothAlike r (scanColumn (scanSheet size (now (values .entry)) (now (codes .entry)) (now (order .entry))) (goLeft (now (sides .entry))) column both) ⌝ }
+    ensures { λ r. ⌜ BothAlike r (scanColumn (scanSheet size (before values) (before codes) (before order)) (goLeft (before sides)) column both) ⌝ }
 {
     if size.rows <= FEW_ROWS {
         return scan_few(both, size, column, values, codes, order, sides);
@@ -75,7 +76,7 @@ fn scan_columns(
     marks: &[u32],
 ) -> Two
     requires { ⌜ Scannable (scanSheet size (now values) (now codes) (now order)) (now marks) ⌝ }
-    ensures { λ r. ⌜ BothAlike r (scanned (scanSheet size (now (values .entry)) (now (codes .entry)) (now (order .entry))) support (goLeft (now (marks .entry)))) ⌝ }
+    ensures { λ r. ⌜ BothAlike r (scanned (scanSheet size (before values) (before codes) (before order)) support (goLeft (before marks))) ⌝ }
 {
     let mut numbers: [u8; MOST_ROWS] = [0; MOST_ROWS];
     let parted = part_rows(size.rows, codes, marks, &mut numbers);
@@ -106,7 +107,7 @@ pub fn get_leaves_score(
     marks: &[u32],
 ) -> Sides
     requires { ⌜ Scannable (scanSheet size (now values) (now codes) (now order)) (now marks) ⌝ }
-    ensures { λ r. ⌜ r ≡ sidesOf (scanSheet size (now (values .entry)) (now (codes .entry)) (now (order .entry))) support (goLeft (now (marks .entry))) ⌝ }
+    ensures { λ r. ⌜ r ≡ sidesOf (scanSheet size (before values) (before codes) (before order)) support (goLeft (before marks)) ⌝ }
 {
     let both = scan_columns(size, support, values, codes, order, marks);
     let first = both.left;

@@ -5,7 +5,8 @@ ghost use lib.Dec.{eqb};
 ghost use lib.ListN.{length};
 ghost use Rattle.basics.specs.Choice.{pick};
 ghost use Rattle.sheet.specs.Limits.{mostRows};
-ghost use Rattle.leaves_score.specs.SideLists.{SidesNumbered, ReadyRows, partedOf};
+ghost use Rattle.leaves_score.specs.SideLists.{ReadyRows, PartedTo};
+ghost use Rattle.basics.specs.Lent.{before, after};
 use basics::wide_byte;
 use sheet::MOST_LABELS;
 use sheet::MOST_ROWS;
@@ -64,8 +65,7 @@ pub(crate) fn part_rows(
     sides: &mut [u8; MOST_ROWS],
 ) -> Parted
     requires { ⌜ ReadyRows rows (now codes) (now marks) × (rows ≤ length (now sides)) ⌝ }
-    ensures { λ r. ⌜ r ≡ partedOf rows (now (codes .entry)) (now (marks .entry)) ⌝ }
-    ensures numbered { λ _. ⌜ SidesNumbered rows (now (marks .entry)) (now (sides .exit)) ⌝ }
+    ensures { λ r. ⌜ PartedTo rows (before codes) (before marks) r (after sides) ⌝ }
 {
     let mut counts: [[u16; MOST_LABELS]; SIDES] = [[0; MOST_LABELS]; SIDES];
     let mut rest: u32 = 0;

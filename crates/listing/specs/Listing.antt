@@ -1,4 +1,4 @@
--- The text of an answer (document 01, "Program (added)"). Definitions, and a law as a statement; `proofs/` proves it.
+-- For a signer. The text of an answer (document 01, "Program (added)"). Definitions, and a law as a statement; `proofs/` proves it.
 use mathlib.Core.Path.{_≡_}
 use Prim.Native.Nat.{ℕ, _+_, _≤_}
 use mathlib.Core.List.{List, _∷_, _++_}

@@ -1,4 +1,4 @@
--- The listings that document 01 prints in full, by their bytes. Definitions only; `proofs/Table.antt` computes them all at once.
+-- For a signer. The listings that document 01 prints in full, by their bytes. Definitions only; `proofs/Table.antt` computes them all at once.
 use Prim.Native.Nat.{ℕ}
 use mathlib.Core.List.{List, [], _∷_}
 use lib.Ieee.{binary64, ofBits}

@@ -1,5 +1,5 @@
--- The words of document 01's listing, in ASCII. The code has each as a byte string, so a reader may check the string there: a contract that names the
--- list is proved only of the same bytes. Definitions only.
+-- For a signer. The words of document 01's listing, in ASCII. The code has each as a byte string, so a reader may check the string there: a
+-- contract that names the list is proved only of the same bytes. Definitions only.
 use Prim.Native.Nat.{ℕ}
 use mathlib.Core.List.{List, [], _∷_}
 

@@ -5,6 +5,7 @@ ghost use lib.ListN.{length};
 ghost use Rattle.digits.specs.Put.{Put};
 ghost use Rattle.listing.specs.Listing.{field, spotOf, questionOf, scoreOf, lineOf, leafOf, splitOf, sideLine, foundOf, ruleLines, ListedIn};
 ghost use Rattle.listing.specs.Listing.{mostField, spotLength, mostQuestion, mostScore, mostLine, mostLeaf, mostSplit, mostSide, mostFound, longest};
+ghost use Rattle.basics.specs.Lent.{before, after};
 use tree::Answer;
 use tree::Leaf;
 use tree::Question;
@@ -21,8 +22,8 @@ const RIGHT_MARK: u8 = b'R';
 // A word and a number.
 fn put_field(out: &mut [u8], at: usize, word: &[u8], n: u64) -> usize
     requires { ⌜ at + mostField (now word) ≤ length (now out) ⌝ }
-    ensures text { λ r. ⌜ Put (now (out .entry)) at (field (now (word .entry)) n) r (now (out .exit)) ⌝ }
-    ensures room { λ r. ⌜ r ≤ at + mostField (now (word .entry)) ⌝ }
+    ensures text { λ r. ⌜ Put (before out) at (field (before word) n) r (after out) ⌝ }
+    ensures room { λ r. ⌜ r ≤ at + mostField (before word) ⌝ }
 {
     let after = digits::put_bytes(out, at, word);
     digits::put_decimal(out, after, n)
@@ -30,7 +31,7 @@ fn put_field(out: &mut [u8], at: usize, word: &[u8], n: u64) -> usize
 
 fn put_threshold(out: &mut [u8], at: usize, threshold: f64) -> usize
     requires { ⌜ at + spotLength ≤ length (now out) ⌝ }
-    ensures text { λ r. ⌜ Put (now (out .entry)) at (spotOf threshold) r (now (out .exit)) ⌝ }
+    ensures text { λ r. ⌜ Put (before out) at (spotOf threshold) r (after out) ⌝ }
     ensures room { λ r. ⌜ r ≡ at + spotLength ⌝ }
 {
     let after = digits::put_bytes(out, at, b" at=");
@@ -40,8 +41,8 @@ fn put_threshold(out: &mut [u8], at: usize, threshold: f64) -> usize
 // A word, a question's column, and its threshold.
 fn put_question(out: &mut [u8], at: usize, word: &[u8], question: Question) -> usize
     requires { ⌜ at + mostQuestion (now word) ≤ length (now out) ⌝ }
-    ensures text { λ r. ⌜ Put (now (out .entry)) at (questionOf (now (word .entry)) question) r (now (out .exit)) ⌝ }
-    ensures room { λ r. ⌜ r ≤ at + mostQuestion (now (word .entry)) ⌝ }
+    ensures text { λ r. ⌜ Put (before out) at (questionOf (before word) question) r (after out) ⌝ }
+    ensures room { λ r. ⌜ r ≤ at + mostQuestion (before word) ⌝ }
 {
     let named = put_field(out, at, word, question.column as u64);
     put_threshold(out, named, question.threshold)
@@ -50,8 +51,8 @@ fn put_question(out: &mut [u8], at: usize, word: &[u8], question: Question) -> u
 // A word, a leaf's label, and its error.
 fn put_score(out: &mut [u8], at: usize, word: &[u8], leaf: Leaf) -> usize
     requires { ⌜ at + mostScore (now word) ≤ length (now out) ⌝ }
-    ensures text { λ r. ⌜ Put (now (out .entry)) at (scoreOf (now (word .entry)) leaf) r (now (out .exit)) ⌝ }
-    ensures room { λ r. ⌜ r ≤ at + mostScore (now (word .entry)) ⌝ }
+    ensures text { λ r. ⌜ Put (before out) at (scoreOf (before word) leaf) r (after out) ⌝ }
+    ensures room { λ r. ⌜ r ≤ at + mostScore (before word) ⌝ }
 {
     let after = put_field(out, at, word, leaf.label as u64);
     put_field(out, after, b"/", leaf.error as u64)
@@ -60,8 +61,8 @@ fn put_score(out: &mut [u8], at: usize, word: &[u8], leaf: Leaf) -> usize
 // Two words, each with a number, and the line's end.
 fn put_line(out: &mut [u8], at: usize, one: &[u8], m: u64, two: &[u8], n: u64) -> usize
     requires { ⌜ at + mostLine (now one) (now two) ≤ length (now out) ⌝ }
-    ensures text { λ r. ⌜ Put (now (out .entry)) at (lineOf (now (one .entry)) m (now (two .entry)) n) r (now (out .exit)) ⌝ }
-    ensures room { λ r. ⌜ r ≤ at + mostLine (now (one .entry)) (now (two .entry)) ⌝ }
+    ensures text { λ r. ⌜ Put (before out) at (lineOf (before one) m (before two) n) r (after out) ⌝ }
+    ensures room { λ r. ⌜ r ≤ at + mostLine (before one) (before two) ⌝ }
 {
     let first = put_field(out, at, one, m);
     let second = put_field(out, first, two, n);
@@ -71,7 +72,7 @@ fn put_line(out: &mut [u8], at: usize, one: &[u8], m: u64, two: &[u8], n: u64) -
 // Past a leaf's mark.
 fn put_leaf(out: &mut [u8], at: usize, leaf: Leaf) -> usize
     requires { ⌜ at + mostLeaf ≤ length (now out) ⌝ }
-    ensures text { λ r. ⌜ Put (now (out .entry)) at (leafOf leaf) r (now (out .exit)) ⌝ }
+    ensures text { λ r. ⌜ Put (before out) at (leafOf leaf) r (after out) ⌝ }
     ensures room { λ r. ⌜ r ≤ at + mostLeaf ⌝ }
 {
     put_line(
@@ -87,7 +88,7 @@ fn put_leaf(out: &mut [u8], at: usize, leaf: Leaf) -> usize
 // Past a split's mark.
 fn put_split(out: &mut [u8], at: usize, question: Question, left: Leaf, right: Leaf) -> usize
     requires { ⌜ at + mostSplit ≤ length (now out) ⌝ }
-    ensures text { λ r. ⌜ Put (now (out .entry)) at (splitOf question left right) r (now (out .exit)) ⌝ }
+    ensures text { λ r. ⌜ Put (before out) at (splitOf question left right) r (after out) ⌝ }
     ensures room { λ r. ⌜ r ≤ at + mostSplit ⌝ }
 {
     let parted = put_question(out, at, b" SPLIT column=", question);
@@ -98,7 +99,7 @@ fn put_split(out: &mut [u8], at: usize, question: Question, left: Leaf, right: L
 
 fn put_side(out: &mut [u8], at: usize, mark: u8, side: Side) -> usize
     requires { ⌜ at + mostSide ≤ length (now out) ⌝ }
-    ensures text { λ r. ⌜ Put (now (out .entry)) at (sideLine mark side) r (now (out .exit)) ⌝ }
+    ensures text { λ r. ⌜ Put (before out) at (sideLine mark side) r (after out) ⌝ }
     ensures room { λ r. ⌜ r ≤ at + mostSide ⌝ }
 {
     out[at] = mark;
@@ -115,7 +116,7 @@ fn put_side(out: &mut [u8], at: usize, mark: u8, side: Side) -> usize
 // A rule's first line.
 fn put_found(out: &mut [u8], tree: Tree, tried: u32) -> usize
     requires { ⌜ mostFound ≤ length (now out) ⌝ }
-    ensures text { λ r. ⌜ Put (now (out .entry)) 0 (foundOf tree tried) r (now (out .exit)) ⌝ }
+    ensures text { λ r. ⌜ Put (before out) 0 (foundOf tree tried) r (after out) ⌝ }
     ensures room { λ r. ⌜ r ≤ mostFound ⌝ }
 {
     let scored = put_field(out, 0, b"FOUND error=", tree.error as u64);
@@ -126,7 +127,7 @@ fn put_found(out: &mut [u8], tree: Tree, tried: u32) -> usize
 
 fn put_rule(out: &mut [u8], tree: Tree, tried: u32) -> usize
     requires { ⌜ longest ≤ length (now out) ⌝ }
-    ensures { λ r. ⌜ Put (now (out .entry)) 0 (ruleLines tree tried) r (now (out .exit)) ⌝ }
+    ensures { λ r. ⌜ Put (before out) 0 (ruleLines tree tried) r (after out) ⌝ }
 {
     let found = put_found(out, tree, tried);
     let left = tree.left;
@@ -137,7 +138,7 @@ fn put_rule(out: &mut [u8], tree: Tree, tried: u32) -> usize
 
 // The answer's listing at the start of `out`, and its length. Nothing is written where there is no room for every listing.
 pub fn write_answer(answer: Answer, out: &mut [u8]) -> usize
-    ensures { λ r. ⌜ ListedIn answer (now (out .entry)) r (now (out .exit)) ⌝ }
+    ensures { λ r. ⌜ ListedIn answer (before out) r (after out) ⌝ }
 {
     if out.len() < LONGEST {
         return 0;

@@ -1,5 +1,6 @@
--- "show that two outcomes fitting the contract coincide, or list the exception and why": one statement for each public function, over its result and every lent word at
--- exit. A contract is an equation, so each says the same of what the equation names. Statements only; `proofs/Outcomes.antt` proves them.
+-- For a signer. "show that two outcomes fitting the contract coincide, or list the exception and why": one statement for each public function,
+-- over its result and every lent word at exit. A contract is an equation, so each says the same of what the equation names. Statements only;
+-- `proofs/Coincide.antt` proves them.
 use mathlib.Core.Path.{_≡_}
 use Prim.Native.Nat.{ℕ}
 use mathlib.Core.Bool.{Bool}

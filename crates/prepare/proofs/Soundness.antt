@@ -20,11 +20,11 @@ use Rattle.threshold.proofs.Law.{within-finite}
 use Rattle.sheet.specs.Sheet.{Sheet, valueOf, rowAt, valueAt, placeOf}
 use Rattle.sheet.specs.Sheet as sheet
 use Rattle.sheet.specs.Sound.{Cuts, SoundColumn}
-use Rattle.row_sort.specs.Sorting.{rowsFrom}
+use Rattle.row_sort.specs.Sorting.{rowsFrom, keyIn}
 use Rattle.prepare.specs.declared.Prepared.{Prepared}
 use Rattle.prepare.specs.Lists.{rowsInOrder, rowIsCut, cutsAlong, cutPlaces, cutCount, padded, cutSlots}
 use Rattle.prepare.specs.Prepared.{columnValues, orderList, cutList, countList, leaves}
-use Rattle.row_sort.specs.Steps.{keyIn, Upto, RowsAscend, Comparable}
+use Rattle.row_sort.specs.Steps.{Upto, RowsAscend, Comparable}
 use Rattle.prepare.specs.Laws.{preparedSheet, Taken, SoundColumns, SoundSheet, Determined}
 use Rattle.row_sort.proofs.Sorting.{ascending-sorted}
 use Rattle.prepare.proofs.Columns.{order-keys, order-rows, order-length}

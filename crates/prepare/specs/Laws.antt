@@ -1,4 +1,4 @@
--- What holds of all that the preparer writes, as statements; `proofs/` proves each.
+-- For a signer. What holds of all that the preparer writes, as statements; `proofs/` proves each.
 use Prim.Native.Nat.{ℕ, _*_, _≤_, _<_}
 use mathlib.Core.Path.{_≡_}
 use mathlib.Core.Bool.{Bool}

@@ -1,4 +1,4 @@
--- What the steps of preparing one column go by. Definitions only.
+-- For proofs only. What the steps of preparing one column go by.
 use Prim.Native.Nat.{ℕ, _≤_, _<_}
 use mathlib.Core.Path.{_≡_}
 use mathlib.Core.List.{List}

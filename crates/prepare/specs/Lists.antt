@@ -1,4 +1,4 @@
--- One column's lists (document 01, "The sheet and its numbers"). Definitions only.
+-- For a signer. One column's lists (document 01, "The sheet and its numbers"). Definitions only.
 use Prim.Native.Nat.{ℕ, _-_}
 use mathlib.Core.Bool.{Bool}
 use mathlib.Core.List.{List, _++_}

@@ -1,4 +1,5 @@
--- What the preparer answers and writes (document 01, "The sheet and its numbers" and "Reasons a call turns back"). Definitions only.
+-- For a signer. What the preparer answers and writes (document 01, "The sheet and its numbers" and "Reasons a call turns back"). Definitions
+-- only.
 use Prim.Native.Nat.{ℕ, zero, suc, _*_}
 use mathlib.Core.Path.{_≡_}
 use mathlib.Core.Bool.{Bool, not, _&&_}

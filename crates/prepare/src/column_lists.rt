@@ -3,10 +3,11 @@ ghost use mathlib.Core.Path.{_≡_};
 ghost use lib.ListN.{length, replicate};
 ghost use Rattle.prepare.specs.Lists.{rowsInOrder, cutsAlong, padded, cutSlots, cutCount};
 ghost use Rattle.prepare.specs.ListSteps.{Ordering, OneColumn};
+ghost use Rattle.basics.specs.Lent.{before, after};
 use threshold::order::below;
 
 fn clear(words: &mut [u16])
-    ensures { λ _. ⌜ now (words .exit) ≡ replicate (length (now (words .entry))) 0 ⌝ }
+    ensures { λ _. ⌜ after words ≡ replicate (length (before words)) 0 ⌝ }
 {
     let mut i: usize = 0;
     while i < words.len() {
@@ -19,8 +20,8 @@ fn clear(words: &mut [u16])
 fn find_cuts(values: &[f64], order: &[u16], cuts: &mut [u16]) -> u16
     requires { ⌜ Ordering (now values) (now order) (now cuts) ⌝ }
     ensures { λ r.
-        ⌜ (r ≡ length (cutsAlong (now (values .entry)) (now (order .entry))))
-        × (now (cuts .exit) ≡ padded (length (now (order .entry))) (cutsAlong (now (values .entry)) (now (order .entry)))) ⌝ }
+        ⌜ (r ≡ length (cutsAlong (before values) (before order)))
+        × (after cuts ≡ padded (length (before order)) (cutsAlong (before values) (before order))) ⌝ }
 {
     let mut count: usize = 0;
     let mut i: usize = 1;
@@ -39,9 +40,9 @@ fn find_cuts(values: &[f64], order: &[u16], cuts: &mut [u16]) -> u16
 pub(crate) fn prepare_column(values: &[f64], order: &mut [u16], cuts: &mut [u16]) -> u16
     requires { ⌜ OneColumn (now values) (now order) (now cuts) ⌝ }
     ensures { λ r.
-        ⌜ (r ≡ cutCount (length (now (values .entry))) (now (values .entry)))
-        × (now (order .exit) ≡ rowsInOrder (length (now (values .entry))) (now (values .entry)))
-        × (now (cuts .exit) ≡ cutSlots (length (now (values .entry))) (now (values .entry))) ⌝ }
+        ⌜ (r ≡ cutCount (length (before values)) (before values))
+        × (after order ≡ rowsInOrder (length (before values)) (before values))
+        × (after cuts ≡ cutSlots (length (before values)) (before values)) ⌝ }
 {
     row_sort::sort(values, 0, order, cuts);
     find_cuts(values, order, cuts)

@@ -41,14 +41,30 @@ fn read_number() -> u64 {
     sum
 }
 
+// A step at every interval of a list.
+fn every_bound(cuts: &[u16], shrinking: bool) -> Tally {
+    let mut all = tally::nothing();
+    let mut code: u32 = 0;
+    while code < code::BOUNDS {
+        let bound = code::bound_of(code);
+        if shrinking {
+            all = shrinking::of_bound(cuts, bound, all);
+        } else {
+            all = neighbourhood::of_bound(cuts, bound, all);
+        }
+        code += 1;
+    }
+    all
+}
+
 fn ask(step: Step, mask: usize) -> Tally {
     let mut list = [0u16; 8];
     let count = code::places(&mut list, mask);
     let cuts = &list[..count];
     match step {
         Step::Lookups => lookups::every(cuts),
-        Step::Shrinking => shrinking::every(cuts),
-        Step::Neighbourhood => neighbourhood::every(cuts),
+        Step::Shrinking => every_bound(cuts, true),
+        Step::Neighbourhood => every_bound(cuts, false),
     }
 }
 

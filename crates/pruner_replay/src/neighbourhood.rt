@@ -65,16 +65,10 @@ fn every_term(cuts: &[u16], bound: Bound, tally: Tally) -> Tally {
 }
 
 // The two cuts are the marks, which need not fit what was tried.
-pub fn every(cuts: &[u16]) -> Tally {
+pub fn of_bound(cuts: &[u16], bound: Bound, tally: Tally) -> Tally {
     let count = cuts.len();
-    let mut all = tally::nothing();
-    let mut code: u32 = 0;
-    while code < code::BOUNDS {
-        let bound = code::bound_of(code);
-        if code::listed(bound, count, count, 0) {
-            all = every_term(cuts, bound, all);
-        }
-        code += 1;
+    if code::listed(bound, count, count, 0) {
+        return every_term(cuts, bound, tally);
     }
-    all
+    tally
 }

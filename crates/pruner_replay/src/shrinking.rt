@@ -138,17 +138,9 @@ fn every_marking(cuts: &[u16], bound: Bound, tally: Tally) -> Tally {
 }
 
 // A search remembers a tried cut below the interval on its left, and one that is not below its last on its right.
-pub fn every(cuts: &[u16]) -> Tally {
-    let count = cuts.len();
-    let mut all = tally::nothing();
-    let mut code: u32 = 0;
-    while code < code::BOUNDS {
-        let bound = code::bound_of(code);
-        if code::listed(bound, count, bound.first, bound.last) {
-            all = every_error(cuts, bound, all);
-            all = every_marking(cuts, bound, all);
-        }
-        code += 1;
+pub fn of_bound(cuts: &[u16], bound: Bound, tally: Tally) -> Tally {
+    if code::listed(bound, cuts.len(), bound.first, bound.last) {
+        return every_marking(cuts, bound, every_error(cuts, bound, tally));
     }
-    all
+    tally
 }

@@ -14,12 +14,13 @@ use Rattle.sheet_bytes.specs.declared.Head.{Head}
 use Rattle.sheet_bytes.specs.declared.Read.{Read}
 use Rattle.sheet_bytes.specs.declared.Read.the-variants.{Sheet}
 use Rattle.sheet_bytes.specs.Room.{mostCells, mostRead}
-use Rattle.sheet_bytes.specs.Read.{SmallHead, headCells, valuesOf, codesOf, readOf, readAnswer, valuesIn, codesIn}
+use Rattle.sheet_bytes.specs.Read.{headCells, valuesOf, codesOf, readOf, readAnswer, valuesIn, codesIn}
+use Rattle.sheet_bytes.specs.Reading.{SmallHead}
 use Rattle.sheet_bytes.specs.Laws as read
 use Rattle.sheet_bytes.proofs.Stages as stages
 use Rattle.sheet_bytes.specs.Numbers.{termsRead}
-use Rattle.rule_finder.specs.Lent.{wordsLent, Prepares}
-use Rattle.rule_finder.specs.Run.{runOf}
+use Rattle.rule_finder.specs.Ready.{Prepares}
+use Rattle.rule_finder.specs.Run.{runOf, wordsLent}
 use Rattle.rule_finder.proofs.Reading.{values-length, codes-length, prepares}
 use Rattle.rule_finder.proofs.Laws.{searched-of}
 

@@ -26,8 +26,7 @@ use Rattle.sheet_bytes.specs.declared.Read.the-variants as read
 use Rattle.sheet_bytes.specs.Read.{readOf}
 use Rattle.sheet_bytes.proofs.Stages as stages
 use Rattle.sheet_bytes.specs.Numbers.{termsRead}
-use Rattle.rule_finder.specs.Lent.{wordsLent}
-use Rattle.rule_finder.specs.Run.{sheetRead, answerTo, runOf}
+use Rattle.rule_finder.specs.Run.{sheetRead, answerTo, runOf, wordsLent}
 use Rattle.rule_finder.specs.Laws.{NeverTurnedBack, RefusedExactly, EverySigned, WrittenWithin, TextWritten, RunsCoincide}
 use Rattle.rule_finder.proofs.Reading.{doubles, accepted}
 

@@ -25,8 +25,8 @@ use Rattle.sheet_bytes.specs.Read.{headCells, bitsOf, valueRead, codeOf, values
 use Rattle.sheet_bytes.specs.Laws as read
 use Rattle.sheet_bytes.proofs.Stages.{grid-held, labels-inside, terms-limited, small-accepted, valued-accepted}
 use Rattle.sheet_bytes.specs.Numbers.{termsRead}
-use Rattle.rule_finder.specs.Lent.{wordsLent, Prepares}
-use Rattle.rule_finder.specs.Run.{sheetRead}
+use Rattle.rule_finder.specs.Ready.{Prepares}
+use Rattle.rule_finder.specs.Run.{sheetRead, wordsLent}
 
 -- a table of doubles has doubles throughout, and a NaN past its end
 all-fit : (f : ℕ → Float) (n : ℕ) → ((k : ℕ) → T (fits binary64 (f k))) → (i : ℕ) → T (fits binary64 (getD (table f n) i nan))

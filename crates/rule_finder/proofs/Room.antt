@@ -11,7 +11,7 @@ use Rattle.prepare.specs.declared.Prepared.the-variants.{Done}
 use Rattle.prepare.specs.Prepared.{prepareOf}
 use Rattle.sheet_bytes.specs.declared.Head.{Head}
 use Rattle.sheet_bytes.specs.Room.{mostCells}
-use Rattle.rule_finder.specs.Lent.{Prepares}
+use Rattle.rule_finder.specs.Ready.{Prepares}
 
 -- the first places of so many zeros
 abbrev pub places : ℕ → ℕ → List ℕ

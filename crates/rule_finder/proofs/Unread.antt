@@ -20,7 +20,8 @@ use Rattle.sheet_bytes.specs.Bytes.{Mark, numberAt, marked, headMark, rowMark}
 use Rattle.sheet_bytes.specs.Reasons.{headWrong, sheetLarge, rowWrong, bytesLeft}
 use Rattle.sheet.specs.Reasons.{sizeOutside}
 use Rattle.sheet_bytes.specs.Room.{headSize, rowSize, largestSheet}
-use Rattle.sheet_bytes.specs.Read.{headOf, rowStart, headBad, sizeBad, tooLarge, rowBad, further, firstBad, fromTerms, fromEnd, fromRows, fromLarge, fromSize, readOf, SmallHead}
+use Rattle.sheet_bytes.specs.Read.{headOf, rowStart, headBad, sizeBad, tooLarge, rowBad, further, firstBad, fromTerms, fromEnd, fromRows, fromLarge, fromSize, readOf}
+use Rattle.sheet_bytes.specs.Reading.{SmallHead}
 use Rattle.sheet_bytes.proofs.Stages.{chosen, accepted, small-accepted, small-enough}
 use Rattle.rule_finder.specs.Run.{answerTo, runOf}
 use Rattle.rule_finder.specs.Laws.{NoneLonger, OneMoreSuffices}

@@ -1,4 +1,4 @@
--- What holds of the finder's answers, as statements; `proofs/` proves each.
+-- For a signer. What holds of the finder's answers, as statements; `proofs/` proves each.
 use mathlib.Core.Path.{_≡_}
 use Prim.Native.Nat.{ℕ, _+_, _≤_}
 use mathlib.Core.Option.{none}
@@ -15,8 +15,7 @@ use Rattle.sheet_bytes.specs.declared.Read.the-variants.{Refused, Sheet}
 use Rattle.sheet_bytes.specs.Read.{readOf}
 use Rattle.sheet_bytes.specs.Room.{largestSheet}
 use Rattle.sheet_bytes.specs.Numbers.{termsRead}
-use Rattle.rule_finder.specs.Lent.{wordsLent}
-use Rattle.rule_finder.specs.Run.{sheetRead, runOf}
+use Rattle.rule_finder.specs.Run.{sheetRead, runOf, wordsLent}
 
 -- "Order: 20, 1, 21, 22, 23, 4, 5, 6.": these are the reader's, and a sheet that is read is never turned back
 abbrev pub NeverTurnedBack : Type 0

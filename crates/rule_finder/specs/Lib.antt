@@ -1,4 +1,4 @@
 pub mod Run
 pub mod Laws
 pub mod Table
-pub mod Lent
+pub mod Ready

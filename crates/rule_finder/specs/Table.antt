@@ -1,4 +1,5 @@
--- The listings that document 01 prints, each from the bytes of its sheet. Definitions only; `proofs/Table.antt` computes them all at once.
+-- For a signer. The listings that document 01 prints, each from the bytes of its sheet. Definitions only; `proofs/Table.antt` computes them
+-- all at once.
 use Prim.Native.Nat.{ℕ}
 use mathlib.Core.List.{List, [], _∷_}
 use lib.ListN.{take, set}

@@ -4,6 +4,7 @@ mod sheet_search;
 ghost use mathlib.Core.Path.{_≡_};
 ghost use Rattle.listing.specs.Listing.{ListedIn};
 ghost use Rattle.rule_finder.specs.Run.{runOf};
+ghost use Rattle.basics.specs.Lent.{before, after};
 use crate::sheet_search::find;
 use sheet_bytes::Read;
 use sheet_bytes::sheet_room::MOST_CELLS;
@@ -11,7 +12,7 @@ use sheet_bytes::sheet_room::MOST_READ;
 use tree::Answer;
 
 fn answer_to(bytes: &[u8]) -> Answer
-    ensures { λ r. ⌜ r ≡ runOf (now (bytes .entry)) ⌝ }
+    ensures { λ r. ⌜ r ≡ runOf (before bytes) ⌝ }
 {
     let mut values = [0.0f64; MOST_CELLS];
     let mut codes = [0u8; MOST_READ];
@@ -28,7 +29,7 @@ fn answer_to(bytes: &[u8]) -> Answer
 
 // The answer to a sheet's bytes, as text at the start of `out`, and its length. Nothing is written where there is no room for every answer.
 pub fn run(bytes: &[u8], out: &mut [u8]) -> usize
-    ensures { λ r. ⌜ ListedIn (runOf (now (bytes .entry))) (now (out .entry)) r (now (out .exit)) ⌝ }
+    ensures { λ r. ⌜ ListedIn (runOf (before bytes)) (before out) r (after out) ⌝ }
 {
     let answer = answer_to(bytes);
     listing::write_answer(answer, out)

@@ -6,7 +6,9 @@ ghost use Rattle.prepare.specs.Prepared.{prepareOf};
 ghost use Rattle.prepare.specs.Laws.{preparedSheet};
 ghost use Rattle.depth2.specs.Search.{searchOf};
 ghost use Rattle.sheet_bytes.specs.Numbers.{termsRead};
-ghost use Rattle.rule_finder.specs.Lent.{wordsLent, Prepares};
+ghost use Rattle.rule_finder.specs.Ready.{Prepares};
+ghost use Rattle.rule_finder.specs.Run.{wordsLent};
+ghost use Rattle.basics.specs.Lent.{before};
 use sheet::MOST_COLUMNS;
 use sheet_bytes::Head;
 use sheet_bytes::MOST_WORDS;
@@ -26,7 +28,7 @@ fn prepare_and_search(
     scratch: &mut [u32],
 ) -> Answer
     requires { ⌜ Done ≡ prepareOf (head .rows) (head .columns) (now values) (length (now order)) (length (now cuts)) (length (now counts)) ⌝ }
-    ensures { λ r. ⌜ r ≡ searchOf (preparedSheet (head .rows) (head .columns) (head .labels) (now (values .entry)) (now (codes .entry))) (termsRead head) (length (now (scratch .entry))) ⌝ }
+    ensures { λ r. ⌜ r ≡ searchOf (preparedSheet (head .rows) (head .columns) (head .labels) (before values) (before codes)) (termsRead head) (length (before scratch)) ⌝ }
 {
     prepare::prepare(head.rows, head.columns, values, order, cuts, counts);
     let size = size_of(head);
@@ -37,7 +39,7 @@ fn prepare_and_search(
 // A sheet's answer, with the room that the preparer and the search ask for.
 pub(crate) fn find(head: Head, values: &[f64], codes: &[u8]) -> Answer
     requires { ⌜ Prepares head (now values) ⌝ }
-    ensures { λ r. ⌜ r ≡ searchOf (preparedSheet (head .rows) (head .columns) (head .labels) (now (values .entry)) (now (codes .entry))) (termsRead head) wordsLent ⌝ }
+    ensures { λ r. ⌜ r ≡ searchOf (preparedSheet (head .rows) (head .columns) (head .labels) (before values) (before codes)) (termsRead head) wordsLent ⌝ }
 {
     let mut order = [0u16; MOST_CELLS];
     let mut cuts = [0u16; MOST_CELLS];

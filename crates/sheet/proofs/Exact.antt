@@ -11,7 +11,7 @@ use lib.Dec.{T, T-not, not-T, leb, eqb, leb→le, le→leb, nleb→lt, eqb-refl}
 use lib.Ieee.{lt}
 use borrow.Author.Tests.{lt-leb}
 use Rattle.basics.specs.Walk.{walk}
-use Rattle.basics.proofs.Choice.{by-test, by-ltb, either, order, reach, and-left, and-right, and-both, nand-left, nand-right, nleb}
+use Rattle.basics.proofs.Choice.{by-test, either, order, and-left, and-right, and-both, nand-left, nand-right, nleb}
 use Rattle.threshold.specs.Threshold.{within}
 use Rattle.sheet.specs.declared.Terms.{Terms}
 use Rattle.sheet.specs.declared.Checked.{Checked}
@@ -21,8 +21,8 @@ use Rattle.sheet.specs.Sheet.{Sheet, valueOf, labelOf, rowAt, valueAt, p
 use Rattle.sheet.specs.Sound.{Limited}
 use Rattle.sheet.specs.Check.{cellsOf, between, gridHolds, sizeHolds, lengthsHold, scratchHolds, termsHold, badValue, badLabel, badOrder, met, falls, badCuts, cutsOf, same, atIndex, reason, whole, contentOf, checkOf}
 use Rattle.sheet.specs.Laws.{Lengths, conditionsOf, Condition, First, GivenExactly, AcceptedExactly, TermAbove, ValueOutside, LabelHigh, OrderWrong, ValueFalls, CutsWrong}
-use Rattle.sheet.proofs.Search.{clean-walk, walk-bad, untruth}
-use Rattle.sheet.proofs.Numbered.{None, next, none0}
+use Rattle.sheet.proofs.Search.{untruth}
+use Rattle.sheet.proofs.Numbered.{None, next, none0, first-whole, scanned, same-refusal}
 use Rattle.sheet.proofs.Index.{column-in, at-column}
 use Rattle.sheet.proofs.MetBefore.{met-yes, met-where}
 use Rattle.sheet.proofs.Lists.{same-refl, same-no}
@@ -234,33 +234,19 @@ module _ (s : Sheet) (t : Terms) (words : ℕ) where
 
   abbrev Fitting : Checked → Type 0
   Fitting Accepted = (n p : ℕ) → C n p → ⊥
-  Fitting (Refused n p) = First s t words n p
+  Fitting (Refused n p) = First C n p
 
   by-whole : (k : ℕ) (holds : Bool) (rest : Checked) → ((q : ℕ) → C (suc k) q → T (not holds)) → (T (not holds) → C (suc k) 0) → None C k
       → (T holds → None C (suc k) → Fitting rest) → Fitting (whole (suc k) holds rest)
   by-whole k holds rest to from none go =
       by-test Fitting holds (λ u. go u (next C k none (λ q x. T-not holds (to q x) u)))
-      (λ u.
-      record {
-        here = from u;
-        no-earlier = λ q h x. absurd (omega arith);
-        no-lower = λ m q h x. none m q (omega arith) x;
-      })
+      (λ u. first-whole C k none (from u))
 
   by-scan : (k places : ℕ) (bad : ℕ → Bool) (rest : Checked) → ((q : ℕ) → C (suc k) q → (q < places) × T (bad q))
       → ((q : ℕ) → q < places → T (bad q) → C (suc k) q) → None C k → (None C (suc k) → Fitting rest)
       → Fitting (reason (suc k) places bad rest)
   unfolding reason
-  by-scan k places bad rest to from none go =
-      let p : ℕ = walk bad places 0 in
-      by-ltb Fitting p places
-      (λ l.
-      record {
-        here = from p l (walk-bad bad places l);
-        no-earlier = λ q h x. T-not (bad q) (clean-walk bad places .none q h) (to q x .1);
-        no-lower = λ m q h x. none m q (omega arith) x;
-      })
-      (λ g. go (next C k none (λ q x. let w = to q x in T-not (bad q) (clean-walk bad places .none q (omega (arith, w .0))) (w .1))))
+  by-scan k places bad rest to from none go = scanned C Fitting k places bad (Refused (suc k) (walk bad places 0)) rest to from none (λ x. x) go
 
   beyond : (m q : ℕ) → 9 < m → C m q → ⊥
   beyond m q h x = subst (λ X. X) (List·getD-eq-default (conditionsOf s t words q) ⊥ {n = m} (omega arith)) x
@@ -290,21 +276,12 @@ module _ (s : Sheet) (t : Terms) (words : ℕ) where
 
   -- ---- two answers that fit are the same
 
-  pub same-refusal : (n p m q : ℕ) → First s t words n p → First s t words m q → (n ≡ m) × (p ≡ q)
-  same-refusal n p m q x y =
-      let e : n ≡ m =
-      order n m (λ l. reach n m l (λ e. e) (λ g. absurd (y .no-lower n p g (x .here)))) (λ g. absurd (x .no-lower m q g (y .here))) in
-      let z : First s t words n q = subst (λ k. First s t words k q) (sym e) y in (
-        e,
-        order p q (λ l. reach p q l (λ e. e) (λ g. absurd (z .no-earlier p g (x .here)))) (λ g. absurd (x .no-earlier q g (z .here))),
-      )
-
   same-answer : (a b : Checked) → Fitting a → Fitting b → a ≡ b
   same-answer Accepted Accepted x y = refl
   same-answer Accepted (Refused n p) x y = absurd (x n p (y .here))
   same-answer (Refused n p) Accepted x y = absurd (y n p (x .here))
   same-answer (Refused n p) (Refused m q) x y =
-      let w = same-refusal n p m q x y in
+      let w = same-refusal C n p m q x y in
       ap (λ (k : ℕ). Refused k p) (w .0) ∙ ap (λ (k : ℕ). Refused m k) (w .1)
 
 -- ---- the laws

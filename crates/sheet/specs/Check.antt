@@ -1,4 +1,5 @@
--- Document 01, "Reasons a call turns back", reasons 1 to 9: what the input check answers for any inputs whatever. Definitions only.
+-- For a signer. Document 01, "Reasons a call turns back", reasons 1 to 9: what the input check answers for any inputs whatever. Definitions
+-- only.
 use Prim.Native.Nat.{ℕ, _+_, _-_, _*_, _/_, _%_}
 use mathlib.Core.Bool.{Bool, true, false, not, _&&_, _||_}
 use mathlib.Core.List.{List, [], _∷_, _++_}

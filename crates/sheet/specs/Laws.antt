@@ -1,5 +1,5 @@
--- What holds of the input check, as statements; `proofs/` proves each. The conditions of the table stand here once more, with no search in them: "for
--- all" and "there is", so that a reader need not trust the order of any scan.
+-- For a signer. What holds of the input check, as statements; `proofs/` proves each. The conditions of the table stand here once more, with no
+-- search in them: "for all" and "there is", so that a reader need not trust the order of any scan.
 use mathlib.Core.Path.{_≡_}
 use mathlib.Core.Logic.{_⊎_}
 use Prim.Native.Nat.{ℕ, _+_, _-_, _*_, _≤_, _<_}
@@ -86,17 +86,17 @@ Condition s t words n p = getD (conditionsOf s t words p) n ⊥
 
 -- ---- "The lowest number wins, each check over the whole sheet."
 
--- reason n holds at place p, at no earlier place, and no lower reason holds anywhere
-pub record First (s : Sheet) (t : Terms) (words n p : ℕ) : Type 0 where
-  pub here : Condition s t words n p
-  pub no-earlier : (q : ℕ) → q < p → Condition s t words n q → ⊥
-  pub no-lower : (m q : ℕ) → m < n → Condition s t words m q → ⊥
+-- of conditions by number and place: reason n holds at place p, at no earlier place, and no lower reason holds anywhere
+pub record First (C : ℕ → ℕ → Type 0) (n p : ℕ) : Type 0 where
+  pub here : C n p
+  pub no-earlier : (q : ℕ) → q < p → C n q → ⊥
+  pub no-lower : (m q : ℕ) → m < n → C m q → ⊥
 
 -- "Each is given exactly when its condition holds and no lower one does."
 abbrev pub GivenExactly : Type 0
 GivenExactly =
     (s : Sheet) (t : Terms) (words n p : ℕ)
-    → (checkOf s t words ≡ Refused n p → First s t words n p) × (First s t words n p → checkOf s t words ≡ Refused n p)
+    → (checkOf s t words ≡ Refused n p → First (Condition s t words) n p) × (First (Condition s t words) n p → checkOf s t words ≡ Refused n p)
 
 -- and a sheet of which none holds is accepted, and no other
 abbrev pub AcceptedExactly : Type 0

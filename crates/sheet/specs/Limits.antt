@@ -1,4 +1,4 @@
--- Document 01, "The sheet and its numbers": the limits, each once. Definitions only.
+-- For a signer. Document 01, "The sheet and its numbers": the limits, each once. Definitions only.
 use Prim.Native.Nat.{ℕ}
 
 -- "Rows 1 to 4,096; columns 1 to 16; labels 1 to 32, coded from 0."

@@ -1,4 +1,4 @@
--- What the functions behind the input check may count on, once reasons 1 and 2, and then 7, were ruled out. Statements only.
+-- For proofs only. What the functions behind the input check may count on, once reasons 1 and 2, and then 7, were ruled out.
 use mathlib.Core.Path.{_≡_}
 use Prim.Native.Nat.{ℕ, _+_, _*_, _≤_, _<_}
 use mathlib.Core.List.{List}

@@ -1,4 +1,4 @@
--- Document 01, "Reasons a call turns back": the numbers of reasons 1 to 9, each once. Definitions only.
+-- For a signer. Document 01, "Reasons a call turns back": the numbers of reasons 1 to 9, each once. Definitions only.
 use Prim.Native.Nat.{ℕ}
 
 -- "rows, columns or labels outside limits"

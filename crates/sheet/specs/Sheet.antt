@@ -1,4 +1,4 @@
--- Document 01, "The sheet and its numbers": what the lists of the lent slices say. Definitions only.
+-- For a signer. Document 01, "The sheet and its numbers": what the lists of the lent slices say. Definitions only.
 use Prim.Native.Nat.{ℕ, _+_, _*_, max}
 use mathlib.Core.Bool.{Bool}
 use mathlib.Core.List.{List}

@@ -1,4 +1,4 @@
--- What holds of every sheet that the input check accepts: all that the search goes by. Statements only.
+-- For a signer. What holds of every sheet that the input check accepts: all that the search goes by. Statements only.
 use mathlib.Core.Path.{_≡_}
 use Prim.Native.Nat.{ℕ, suc, _≤_, _<_}
 use mathlib.Core.Bool.{Bool}

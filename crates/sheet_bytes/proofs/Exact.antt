@@ -16,7 +16,8 @@ use Rattle.basics.proofs.Lists.{getD-table}
 use Rattle.sheet_bytes.specs.declared.Head.{Head}
 use Rattle.sheet_bytes.specs.Bytes.{byteAt, numberAt, marked, headMark, rowMark}
 use Rattle.sheet_bytes.specs.Room.{headSize, rowSize}
-use Rattle.sheet_bytes.specs.Read.{headOf, rowStart, codeOf, headCells, cellAt, bitsOf, valueRead, valuesOf, codesOf, headBad, rowBad, further, SmallHead}
+use Rattle.sheet_bytes.specs.Read.{headOf, rowStart, codeOf, headCells, cellAt, bitsOf, valueRead, valuesOf, codesOf, headBad, rowBad, further}
+use Rattle.sheet_bytes.specs.Reading.{SmallHead}
 use Rattle.sheet_bytes.specs.Laws.{Accepted}
 use Rattle.sheet_bytes.specs.Encode.{bytesOf, inTurn, headBytes, rowBytes, encodeOf, Exact}
 use Rattle.sheet_bytes.proofs.Numbers.{number-within}

@@ -1,10 +1,11 @@
--- Numbers of bytes join to wider ones; where a cell stands; a NaN by its bits. Assumes nothing.
+-- A number of bytes grows by one at a time; where a cell stands; a NaN by its bits. Assumes nothing.
 use mathlib.Core.Path.{_≡_, refl, sym, ap, _∙_, subst}
-use Prim.Native.Nat.{ℕ, suc, _+_, _*_, _/_, _%_, _≤_, _<_}
+use Prim.Native.Nat.{ℕ, suc, _+_, _-_, _*_, _/_, _%_, _^_, _≤_, _<_}
 use native.Mathlib.Omega.{arith}
 use native.Mathlib.Nat.{mul-le-mul, mod-lt, div-lt-iff-lt-mul}
 use mathlib.Core.Bool.{Bool, true, false, not, _&&_, _||_}
 use mathlib.Core.List.{List}
+use lib.Pow.{pow-add, pow-mono}
 use lib.Dec.{T, ltb, lt→ltb, not-T, ltb→lt}
 use lib.Ieee.{Float, nan, inf, fin, binary64, ofBits, nanBits, isNan, lt, eq, le}
 use lib.Ieee.Bits.{nanBits-is, nanBits-above}
@@ -14,25 +15,24 @@ use Rattle.sheet_bytes.specs.Bytes.{byteAt, numberAt}
 use Rattle.sheet.specs.Limits.{mostColumns}
 use Rattle.sheet_bytes.specs.Room.{mostRead, rowSize}
 
--- ---- two numbers side by side
+-- ---- one byte more, below those read
 
-pub pair-is : (bytes : List ℕ) (at : ℕ) → numberAt 2 bytes at ≡ byteAt bytes at + 256 * byteAt bytes (at + 1)
-unfolding numberAt
-pair-is bytes at =
-    let e : at + 1 ≡ suc at = omega arith in
-    omega (arith, ap (byteAt bytes) e)
+module _ (bytes : List ℕ) (at l width : ℕ) (some : 0 < l) (inside : l ≤ width) where
+  pub number-more : byteAt bytes (at + (l - 1)) + 256 * numberAt (width - l) bytes (at + l) ≡ numberAt (width - (l - 1)) bytes (at + (l - 1))
+  unfolding numberAt
+  number-more =
+      let e : suc (width - l) ≡ width - (l - 1) = omega arith in
+      let f : at + l ≡ suc (at + (l - 1)) = omega arith in
+      ap (λ k. byteAt bytes (at + (l - 1)) + 256 * numberAt (width - l) bytes k) f ∙ ap (λ w. numberAt w bytes (at + (l - 1))) e
 
-pub quad-is : (bytes : List ℕ) (at : ℕ) → numberAt 4 bytes at ≡ numberAt 2 bytes at + 65536 * numberAt 2 bytes (at + 2)
-unfolding numberAt
-quad-is bytes at =
-    let e : at + 2 ≡ suc (suc at) = omega arith in
-    omega (arith, ap (numberAt 2 bytes) e)
+  pub number-wide : (n b : ℕ) → n < 2 ^ (8 * (width - l)) → b < 256 → b + 256 * n < 2 ^ (8 * (width - (l - 1)))
+  number-wide n b h g =
+      let e : 8 * (width - (l - 1)) ≡ 8 + 8 * (width - l) = omega arith in
+      omega (arith, ap (λ k. 2 ^ k) e ∙ pow-add 2 8 (8 * (width - l)))
 
-pub bits-is : (bytes : List ℕ) (at : ℕ) → numberAt 8 bytes at ≡ numberAt 4 bytes at + 4294967296 * numberAt 4 bytes (at + 4)
-unfolding numberAt
-bits-is bytes at =
-    let e : at + 4 ≡ suc (suc (suc (suc at))) = omega arith in
-    omega (arith, ap (numberAt 4 bytes) e)
+-- fewer than eight bytes leave room for one more
+pub number-room : (n k : ℕ) → n < 2 ^ (8 * k) → k < 8 → n < 2 ^ 56
+number-room n k h g = omega (arith, pow-mono {i = 8 * k} {j = 56} (omega arith))
 
 -- ---- tests joined, as an `if` makes them
 
@@ -79,10 +79,6 @@ pub nan-refused : (bits : ℕ) → 9218868437227405312 < bits % 9223372036854775
 nan-refused bits h =
     nan-outside (ofBits binary64 bits)
     (subst T (sym (nanBits-above binary64 bits) ∙ nanBits-is binary64 bits) (lt→ltb 9218868437227405312 (bits % 9223372036854775808) h))
-
-pub byte-is : (bytes : List ℕ) (at : ℕ) → byteAt bytes at ≡ numberAt 1 bytes at
-unfolding numberAt
-byte-is bytes at = omega arith
 
 pub number-within : (x : Float) → T (within x) → T (not (isNan x))
 unfolding isNan within lt eq le

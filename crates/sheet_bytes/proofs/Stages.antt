@@ -22,7 +22,8 @@ use Rattle.sheet_bytes.specs.declared.Read.the-variants.{Refused, Sheet}
 use Rattle.sheet.specs.Reasons.{sizeOutside, termAbove, valueOutside, labelHigh}
 use Rattle.sheet_bytes.specs.Room.{mostRead, mostCells}
 use Rattle.sheet_bytes.specs.Reasons.{headWrong, sheetLarge, rowWrong, bytesLeft}
-use Rattle.sheet_bytes.specs.Read.{headOf, headCells, headBad, sizeBad, tooLarge, rowBad, further, termsBad, valueBad, codeBad, firstBad, fromCodes, fromValues, fromTerms, fromEnd, fromRows, fromLarge, fromSize, readOf, SmallHead, Valued, valueRead}
+use Rattle.sheet_bytes.specs.Read.{headOf, headCells, headBad, sizeBad, tooLarge, rowBad, further, termsBad, valueBad, codeBad, firstBad, fromCodes, fromValues, fromTerms, fromEnd, fromRows, fromLarge, fromSize, readOf, valueRead}
+use Rattle.sheet_bytes.specs.Reading.{SmallHead, Valued}
 use Rattle.sheet_bytes.specs.Laws.{Accepted, Accepts}
 use Rattle.sheet_bytes.proofs.Find.{none-bad, ends}
 

@@ -1,4 +1,5 @@
--- Numbers and marks in bytes (document 01, "Program (added)"): "little-endian, each record after a two-byte mark". Definitions only.
+-- For a signer. Numbers and marks in bytes (document 01, "Program (added)"): "little-endian, each record after a two-byte mark". Definitions
+-- only.
 use Prim.Native.Nat.{ℕ, zero, suc, _+_, _*_}
 use mathlib.Core.Bool.{Bool, _&&_}
 use mathlib.Core.List.{List}

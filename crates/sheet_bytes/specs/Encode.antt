@@ -1,4 +1,5 @@
--- A sheet's bytes, as a house writes them (document 01, "Program (added)"), and that reading them gives the sheet back. Definitions and statements.
+-- For a signer. A sheet's bytes, as a house writes them (document 01, "Program (added)"), and that reading them gives the sheet back.
+-- Definitions and statements.
 use mathlib.Core.Path.{_≡_}
 use Prim.Native.Nat.{ℕ, zero, suc, _+_, _*_, _/_, _%_, _<_}
 use mathlib.Core.Bool.{not}

@@ -1,4 +1,4 @@
--- What holds of an accepted sheet, as statements; `proofs/` proves each.
+-- For a signer. What holds of an accepted sheet, as statements; `proofs/` proves each.
 use mathlib.Core.Path.{_≡_}
 use Prim.Native.Nat.{ℕ, _<_}
 use mathlib.Core.Bool.{not}

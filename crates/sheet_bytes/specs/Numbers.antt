@@ -1,4 +1,4 @@
--- A sheet's header as the numbers of a sheet and of a search. Definitions only.
+-- For a signer. A sheet's header as the numbers of a sheet and of a search. Definitions only.
 use Rattle.sheet.specs.declared.Size.{Size}
 use Rattle.sheet.specs.declared.Terms.{Terms}
 use Rattle.sheet_bytes.specs.declared.Head.{Head}

@@ -1,16 +1,15 @@
--- What a sheet's bytes say, and when they are refused (document 01, "Program (added)"). Definitions only.
+-- For a signer. What a sheet's bytes say, and when they are refused (document 01, "Program (added)"). Definitions only.
 use mathlib.Core.Path.{_≡_}
-use Prim.Native.Nat.{ℕ, suc, _+_, _*_, _/_, _%_, _≤_, _<_}
-use mathlib.Core.Bool.{Bool, true, false, not, _||_}
+use Prim.Native.Nat.{ℕ, suc, _+_, _*_, _/_, _%_}
+use mathlib.Core.Bool.{Bool, not, _||_}
 use mathlib.Core.List.{List, _++_}
 use lib.ListN.{length, drop}
-use lib.Dec.{T, leb, ltb}
+use lib.Dec.{leb, ltb}
 use lib.Ieee.{Float, binary64, ofBits}
 use Rattle.basics.specs.Choice.{pick}
 use Rattle.basics.specs.Lists.{table}
 use Rattle.basics.specs.Walk.{walk}
 use Rattle.threshold.specs.Threshold.{within}
-use Rattle.sheet.specs.Limits.{mostColumns}
 use Rattle.sheet.specs.Check.{sizeHolds, termsHold}
 use Rattle.sheet_bytes.specs.declared.Head.{Head}
 use Rattle.sheet_bytes.specs.declared.Read.{Read}
@@ -39,10 +38,6 @@ headOf bytes =
 -- where a row's record starts; that of the row past the last is the end
 unfoldable pub rowStart : ℕ → ℕ → ℕ
 rowStart columns row = headSize + row * rowSize columns
-
--- the end of 2,048 rows of 16 columns, past every start
-abbrev pub lastStart : ℕ
-lastStart = headSize + mostRead * rowSize mostColumns
 
 -- a row's label code
 unfoldable pub codeOf : List ℕ → Head → ℕ → ℕ
@@ -105,11 +100,6 @@ valueBad bytes h index = not (within (valueRead bytes h index))
 unfoldable pub codeBad : List ℕ → Head → ℕ → Bool
 codeBad bytes h row = leb (h .labels) (codeOf bytes h row)
 
--- the two tests of a row: 6, else 22
-abbrev pub badRow : Bool → List ℕ → Head → ℕ → Bool
-badRow true = codeBad
-badRow false = rowBad
-
 -- ---- "Order: 20, 1, 21, 22, 23, 4, 5, 6."
 
 -- the first of `count` places that is bad refuses, else the rest decides
@@ -139,17 +129,6 @@ fromSize bytes h = pick (sizeBad h) (Refused sizeOutside 0) (fromLarge bytes h)
 
 unfoldable pub readOf : List ℕ → Read
 readOf bytes = pick (headBad bytes) (Refused headWrong 0) (fromSize bytes (headOf bytes))
-
--- ---- a sheet that is neither empty nor too large: what the reading of its rows goes by
-pub record SmallHead (h : Head) : Type 0 where
-  pub rows-some : 1 ≤ h .rows
-  pub rows-most : h .rows ≤ mostRead
-  pub columns-most : h .columns ≤ mostColumns
-  pub cells-most : headCells h ≤ mostCells
-
--- all its values are finite and not too large
-abbrev pub Valued : List ℕ → Head → Type 0
-Valued bytes h = (index : ℕ) → index < headCells h → T (within (valueRead bytes h index))
 
 -- ---- the reading into lent memory
 

@@ -1,4 +1,4 @@
--- The finder's own reasons for refusing a sheet (document 01), each once; the sheet's stand in crate sheet. Definitions only.
+-- For a signer. The finder's own reasons for refusing a sheet (document 01), each once; the sheet's stand in crate sheet. Definitions only.
 use Prim.Native.Nat.{ℕ}
 
 -- "20 header short or mismarked (0)"

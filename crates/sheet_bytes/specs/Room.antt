@@ -1,4 +1,4 @@
--- How long the parts of a sheet are in bytes, and the largest sheet (document 01, "Program (added)"). Definitions only.
+-- For a signer. How long the parts of a sheet are in bytes, and the largest sheet (document 01, "Program (added)"). Definitions only.
 use Prim.Native.Nat.{ℕ, _+_, _*_}
 
 -- "`HD`: rows u16, columns u8, labels u8, support u16, gap u32, error u32, bound u32."

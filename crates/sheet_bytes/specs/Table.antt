@@ -1,5 +1,5 @@
--- Document 01's worked sheet by its bytes, and what becomes of it damaged: each reason once, in the order of the checks. Definitions only;
--- `proofs/Table.antt` computes them all at once.
+-- For a signer. Document 01's worked sheet by its bytes, and what becomes of it damaged: each reason once, in the order of the checks.
+-- Definitions only; `proofs/Table.antt` computes them all at once.
 use Prim.Native.Nat.{ℕ}
 use mathlib.Core.List.{List, [], _∷_, _++_}
 use lib.ListN.{take, set}

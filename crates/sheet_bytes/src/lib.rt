@@ -16,7 +16,7 @@ use sheet::Terms;
 use sheet::VALUE_OUTSIDE;
 use sheet::WORDS_PER_ROW;
 ghost use mathlib.Core.Path.{_≡_};
-ghost use Prim.Native.Nat.{_^_, _≤_, _<_};
+ghost use Prim.Native.Nat.{_*_, _^_, _≤_, _<_};
 ghost use lib.ListN.{length};
 ghost use lib.Seq.{sets};
 ghost use lib.Ieee.{binary64, ofBits};
@@ -25,7 +25,9 @@ ghost use Rattle.threshold.specs.Threshold.{within};
 ghost use Rattle.sheet.specs.Limits.{mostColumns};
 ghost use Rattle.sheet_bytes.specs.Room.{mostRead};
 ghost use Rattle.sheet_bytes.specs.Bytes.{byteAt, numberAt, marked};
-ghost use Rattle.sheet_bytes.specs.Read.{headOf, rowStart, lastStart, codeOf, headCells, cellAt, valuesOf, codesOf, headBad, sizeBad, tooLarge, rowBad, further, termsBad, valueBad, codeBad, badRow, fromTerms, readOf, SmallHead, Valued, ReadInto};
+ghost use Rattle.sheet_bytes.specs.Read.{headOf, rowStart, codeOf, headCells, cellAt, valuesOf, codesOf, headBad, sizeBad, tooLarge, rowBad, further, termsBad, valueBad, codeBad, fromTerms, readOf, ReadInto};
+ghost use Rattle.sheet_bytes.specs.Reading.{lastStart, badRow, SmallHead, Valued};
+ghost use Rattle.basics.specs.Lent.{before, after};
 
 // The numbers of the header.
 pub struct Head {
@@ -77,7 +79,7 @@ const INFINITE: u64 = 0x7FF0_0000_0000_0000;
 const SIGN: u64 = 0x8000_0000_0000_0000;
 
 fn byte_at(bytes: &[u8], at: usize) -> u64
-    ensures value { λ r. ⌜ r ≡ byteAt (now (bytes .entry)) at ⌝ }
+    ensures value { λ r. ⌜ r ≡ byteAt (before bytes) at ⌝ }
     ensures byte { λ r. ⌜ r < 256 ⌝ }
 {
     if at < bytes.len() {
@@ -87,38 +89,24 @@ fn byte_at(bytes: &[u8], at: usize) -> u64
     }
 }
 
-fn pair_at(bytes: &[u8], at: usize) -> u64
-    requires { ⌜ at < 2 ^ 32 ⌝ }
-    ensures value { λ r. ⌜ r ≡ numberAt 2 (now (bytes .entry)) at ⌝ }
-    ensures wide { λ r. ⌜ r < 2 ^ 16 ⌝ }
+// The number in `width` bytes from a place on, the least byte first.
+fn number_at(bytes: &[u8], at: usize, width: usize) -> u64
+    requires { ⌜ (at < 2 ^ 32) × (width ≤ 8) ⌝ }
+    ensures value { λ r. ⌜ r ≡ numberAt width (before bytes) at ⌝ }
+    ensures wide { λ r. ⌜ r < 2 ^ (8 * width) ⌝ }
 {
-    let low = byte_at(bytes, at);
-    let high = byte_at(bytes, at + 1);
-    low + 256 * high
-}
-
-fn quad_at(bytes: &[u8], at: usize) -> u64
-    requires { ⌜ at < 2 ^ 31 ⌝ }
-    ensures value { λ r. ⌜ r ≡ numberAt 4 (now (bytes .entry)) at ⌝ }
-    ensures wide { λ r. ⌜ r < 2 ^ 32 ⌝ }
-{
-    let low = pair_at(bytes, at);
-    let high = pair_at(bytes, at + 2);
-    low + 65536 * high
-}
-
-fn bits_at(bytes: &[u8], at: usize) -> u64
-    requires { ⌜ at < 2 ^ 30 ⌝ }
-    ensures { λ r. ⌜ r ≡ numberAt 8 (now (bytes .entry)) at ⌝ }
-{
-    let low = quad_at(bytes, at);
-    let high = quad_at(bytes, at + 4);
-    low + 4294967296 * high
+    let mut number: u64 = 0;
+    let mut left = width;
+    while 0 < left {
+        left -= 1;
+        number = byte_at(bytes, at + left) + 256 * number;
+    }
+    number
 }
 
 fn is_marked(bytes: &[u8], at: usize, first: u8, second: u8) -> bool
     requires { ⌜ at < 2 ^ 32 ⌝ }
-    ensures { λ r. ⌜ r ≡ marked (record { first = first; second = second }) (now (bytes .entry)) at ⌝ }
+    ensures { λ r. ⌜ r ≡ marked (record { first = first; second = second }) (before bytes) at ⌝ }
 {
     if byte_at(bytes, at) == first as u64 {
         byte_at(bytes, at + 1) == second as u64
@@ -128,21 +116,21 @@ fn is_marked(bytes: &[u8], at: usize, first: u8, second: u8) -> bool
 }
 
 fn head_of(bytes: &[u8]) -> Head
-    ensures { λ r. ⌜ r ≡ headOf (now (bytes .entry)) ⌝ }
+    ensures { λ r. ⌜ r ≡ headOf (before bytes) ⌝ }
 {
     Head {
-        rows: pair_at(bytes, ROWS_AT) as usize,
-        columns: byte_at(bytes, COLUMNS_AT) as usize,
-        labels: byte_at(bytes, LABELS_AT) as usize,
-        support: pair_at(bytes, SUPPORT_AT) as u32,
-        gap: quad_at(bytes, GAP_AT) as u32,
-        error: quad_at(bytes, ERROR_AT) as u32,
-        bound: quad_at(bytes, BOUND_AT) as u32,
+        rows: number_at(bytes, ROWS_AT, 2) as usize,
+        columns: number_at(bytes, COLUMNS_AT, 1) as usize,
+        labels: number_at(bytes, LABELS_AT, 1) as usize,
+        support: number_at(bytes, SUPPORT_AT, 2) as u32,
+        gap: number_at(bytes, GAP_AT, 4) as u32,
+        error: number_at(bytes, ERROR_AT, 4) as u32,
+        bound: number_at(bytes, BOUND_AT, 4) as u32,
     }
 }
 
 fn head_bad(bytes: &[u8]) -> bool
-    ensures { λ r. ⌜ r ≡ headBad (now (bytes .entry)) ⌝ }
+    ensures { λ r. ⌜ r ≡ headBad (before bytes) ⌝ }
 {
     if bytes.len() < HEAD_SIZE {
         true
@@ -193,7 +181,7 @@ fn start_of(columns: usize, row: usize) -> usize
 
 fn row_bad(bytes: &[u8], head: Head, row: usize) -> bool
     requires { ⌜ SmallHead head × (row < head .rows) ⌝ }
-    ensures { λ r. ⌜ r ≡ rowBad (now (bytes .entry)) head row ⌝ }
+    ensures { λ r. ⌜ r ≡ rowBad (before bytes) head row ⌝ }
 {
     if bytes.len() < start_of(head.columns, row + 1) {
         true
@@ -204,7 +192,7 @@ fn row_bad(bytes: &[u8], head: Head, row: usize) -> bool
 
 fn has_further(bytes: &[u8], head: Head) -> bool
     requires { ⌜ SmallHead head ⌝ }
-    ensures { λ r. ⌜ r ≡ further (now (bytes .entry)) head ⌝ }
+    ensures { λ r. ⌜ r ≡ further (before bytes) head ⌝ }
 {
     start_of(head.columns, head.rows) < bytes.len()
 }
@@ -233,15 +221,15 @@ fn bits_within(bits: u64) -> bool
 
 fn value_bad(bytes: &[u8], head: Head, index: usize) -> bool
     requires { ⌜ SmallHead head × (index < headCells head) ⌝ }
-    ensures { λ r. ⌜ r ≡ valueBad (now (bytes .entry)) head index ⌝ }
+    ensures { λ r. ⌜ r ≡ valueBad (before bytes) head index ⌝ }
 {
-    !bits_within(bits_at(bytes, cell_at(head, index)))
+    !bits_within(number_at(bytes, cell_at(head, index), VALUE_SIZE))
 }
 
 // The index of the first value that is not finite or too large; the number of values if there is none.
 fn first_bad_value(bytes: &[u8], head: Head) -> usize
     requires { ⌜ SmallHead head ⌝ }
-    ensures { λ r. ⌜ r ≡ walk (valueBad (now (bytes .entry)) head) (headCells head) 0 ⌝ }
+    ensures { λ r. ⌜ r ≡ walk (valueBad (before bytes) head) (headCells head) 0 ⌝ }
 {
     let cells = head.columns * head.rows;
     let mut index: usize = 0;
@@ -256,21 +244,21 @@ fn first_bad_value(bytes: &[u8], head: Head) -> usize
 
 fn code_at(bytes: &[u8], head: Head, row: usize) -> u8
     requires { ⌜ SmallHead head × (row < head .rows) ⌝ }
-    ensures { λ r. ⌜ r ≡ codeOf (now (bytes .entry)) head row ⌝ }
+    ensures { λ r. ⌜ r ≡ codeOf (before bytes) head row ⌝ }
 {
     byte_at(bytes, start_of(head.columns, row) + CODE_PLACE) as u8
 }
 
 fn code_bad(bytes: &[u8], head: Head, row: usize) -> bool
     requires { ⌜ SmallHead head × (row < head .rows) ⌝ }
-    ensures { λ r. ⌜ r ≡ codeBad (now (bytes .entry)) head row ⌝ }
+    ensures { λ r. ⌜ r ≡ codeBad (before bytes) head row ⌝ }
 {
     head.labels <= code_at(bytes, head, row) as usize
 }
 
 fn is_bad(bytes: &[u8], head: Head, row: usize, coded: bool) -> bool
     requires { ⌜ SmallHead head × (row < head .rows) ⌝ }
-    ensures { λ r. ⌜ r ≡ badRow coded (now (bytes .entry)) head row ⌝ }
+    ensures { λ r. ⌜ r ≡ badRow coded (before bytes) head row ⌝ }
 {
     if coded {
         code_bad(bytes, head, row)
@@ -282,7 +270,7 @@ fn is_bad(bytes: &[u8], head: Head, row: usize, coded: bool) -> bool
 // The first row whose label code is too high, or else that is short or mismarked; the number of rows if there is none.
 fn first_bad_row(bytes: &[u8], head: Head, coded: bool) -> usize
     requires { ⌜ SmallHead head ⌝ }
-    ensures { λ r. ⌜ r ≡ walk (badRow coded (now (bytes .entry)) head) (head .rows) 0 ⌝ }
+    ensures { λ r. ⌜ r ≡ walk (badRow coded (before bytes) head) (head .rows) 0 ⌝ }
 {
     let mut row: usize = 0;
     while row < head.rows {
@@ -297,7 +285,7 @@ fn first_bad_row(bytes: &[u8], head: Head, coded: bool) -> usize
 // Reasons 4, 5 and 6.
 fn check_cells(bytes: &[u8], head: Head) -> Read
     requires { ⌜ SmallHead head ⌝ }
-    ensures { λ r. ⌜ r ≡ fromTerms (now (bytes .entry)) head ⌝ }
+    ensures { λ r. ⌜ r ≡ fromTerms (before bytes) head ⌝ }
 {
     if terms_bad(head) {
         return Read::Refused {
@@ -324,7 +312,7 @@ fn check_cells(bytes: &[u8], head: Head) -> Read
 
 // All reasons, in document 01's order.
 fn check_sheet(bytes: &[u8]) -> Read
-    ensures { λ r. ⌜ r ≡ readOf (now (bytes .entry)) ⌝ }
+    ensures { λ r. ⌜ r ≡ readOf (before bytes) ⌝ }
 {
     if head_bad(bytes) {
         return Read::Refused {
@@ -363,12 +351,12 @@ fn check_sheet(bytes: &[u8]) -> Read
 
 fn fill_values(bytes: &[u8], head: Head, values: &mut [f64])
     requires { ⌜ SmallHead head × (headCells head ≤ length (now values)) × Valued (now bytes) head ⌝ }
-    ensures { λ _. ⌜ now (values .exit) ≡ sets (now (values .entry)) 0 (valuesOf (now (bytes .entry)) head) ⌝ }
+    ensures { λ _. ⌜ after values ≡ sets (before values) 0 (valuesOf (before bytes) head) ⌝ }
 {
     let cells = head.columns * head.rows;
     let mut index: usize = 0;
     while index < cells {
-        let bits = bits_at(bytes, cell_at(head, index));
+        let bits = number_at(bytes, cell_at(head, index), VALUE_SIZE);
         values[index] = f64::from_bits(bits);
         index += 1;
     }
@@ -376,7 +364,7 @@ fn fill_values(bytes: &[u8], head: Head, values: &mut [f64])
 
 fn fill_codes(bytes: &[u8], head: Head, codes: &mut [u8])
     requires { ⌜ SmallHead head × (head .rows ≤ length (now codes)) ⌝ }
-    ensures { λ _. ⌜ now (codes .exit) ≡ sets (now (codes .entry)) 0 (codesOf (now (bytes .entry)) head) ⌝ }
+    ensures { λ _. ⌜ after codes ≡ sets (before codes) 0 (codesOf (before bytes) head) ⌝ }
 {
     let mut row: usize = 0;
     while row < head.rows {
@@ -388,7 +376,7 @@ fn fill_codes(bytes: &[u8], head: Head, codes: &mut [u8])
 // The header's numbers, with the values and the label codes at the start of the lent memory; or why the bytes are refused, and then nothing
 // is written. The memory must hold the largest sheet, whatever the sheet.
 pub fn read_sheet(bytes: &[u8], values: &mut [f64], codes: &mut [u8]) -> Read
-    ensures { λ r. ⌜ ReadInto (now (bytes .entry)) (now (values .entry)) (now (codes .entry)) r (now (values .exit)) (now (codes .exit)) ⌝ }
+    ensures { λ r. ⌜ ReadInto (before bytes) (before values) (before codes) r (after values) (after codes) ⌝ }
 {
     if values.len() < MOST_CELLS {
         return Read::Refused {

@@ -11,11 +11,12 @@ ghost use Rattle.basics.specs.Walk.{walk};
 ghost use Rattle.sheet.specs.Check.{sheetOf, badCuts, cutsOf, same};
 ghost use Rattle.sheet.specs.Sheet.{placesOf};
 ghost use Rattle.sheet.specs.Ready.{Cutting};
+ghost use Rattle.basics.specs.Lent.{before};
 
 // Whether cut number `number` of the column whose entries start at base is listed, at that place.
 fn is_listed(cuts: &[u16], base: usize, count: usize, number: usize, place: usize) -> bool
     requires { ⌜ base + number < length (now cuts) ⌝ }
-    ensures { λ r. ⌜ r ≡ (ltb number count && eqb (getD (now (cuts .entry)) (base + number) 0) place) ⌝ }
+    ensures { λ r. ⌜ r ≡ (ltb number count && eqb (getD (before cuts) (base + number) 0) place) ⌝ }
 {
     if number < count {
         wide_entry(cuts[base + number]) == place
@@ -35,8 +36,8 @@ fn cuts_match(
 ) -> bool
     requires { ⌜ Cutting size (now values) (now order) (now cuts) (now counts) × (column < size .columns) ⌝ }
     ensures { λ r.
-        ⌜ r ≡ same (placesOf (sheetOf size (now (values .entry)) [] (now (order .entry)) (now (cuts .entry)) (now (counts .entry))) column)
-        (cutsOf (sheetOf size (now (values .entry)) [] (now (order .entry)) (now (cuts .entry)) (now (counts .entry))) column) ⌝ }
+        ⌜ r ≡ same (placesOf (sheetOf size (before values) [] (before order) (before cuts) (before counts)) column)
+        (cutsOf (sheetOf size (before values) [] (before order) (before cuts) (before counts)) column) ⌝ }
 {
     let base = column * size.rows;
     let count = wide_entry(counts[column]);
@@ -63,7 +64,7 @@ pub(crate) fn first_bad_cuts(
     counts: &[u16],
 ) -> usize
     requires { ⌜ Cutting size (now values) (now order) (now cuts) (now counts) ⌝ }
-    ensures { λ r. ⌜ r ≡ walk (badCuts (sheetOf size (now (values .entry)) [] (now (order .entry)) (now (cuts .entry)) (now (counts .entry)))) (size .columns) 0 ⌝ }
+    ensures { λ r. ⌜ r ≡ walk (badCuts (sheetOf size (before values) [] (before order) (before cuts) (before counts))) (size .columns) 0 ⌝ }
 {
     let mut column: usize = 0;
     while column < size.columns {

@@ -21,6 +21,7 @@ ghost use lib.ListN.{length};
 ghost use Rattle.sheet.specs.Check.{sheetOf, lengthsHold, contentOf};
 ghost use Rattle.sheet.specs.Ready.{Sized, Shaped};
 ghost use Rattle.sheet_check.specs.Promise.{CheckedOf};
+ghost use Rattle.basics.specs.Lent.{before, after};
 
 fn lengths_hold(
     size: Size,
@@ -31,7 +32,7 @@ fn lengths_hold(
     counts: &[u16],
 ) -> bool
     requires { ⌜ Sized size ⌝ }
-    ensures { λ r. ⌜ r ≡ lengthsHold (sheetOf size (now (values .entry)) (now (codes .entry)) (now (order .entry)) (now (cuts .entry)) (now (counts .entry))) ⌝ }
+    ensures { λ r. ⌜ r ≡ lengthsHold (sheetOf size (before values) (before codes) (before order) (before cuts) (before counts)) ⌝ }
 {
     let cells = size.columns * size.rows;
     if values.len() != cells {
@@ -60,7 +61,7 @@ fn check_lists(
     marks: &mut [u32],
 ) -> Checked
     requires { ⌜ Shaped (sheetOf size (now values) (now codes) (now order) (now cuts) (now counts)) × (length (now marks) ≡ size .rows) ⌝ }
-    ensures { λ r. ⌜ r ≡ contentOf (sheetOf size (now (values .entry)) (now (codes .entry)) (now (order .entry)) (now (cuts .entry)) (now (counts .entry))) ⌝ }
+    ensures { λ r. ⌜ r ≡ contentOf (sheetOf size (before values) (before codes) (before order) (before cuts) (before counts)) ⌝ }
 {
     let value = sheet::first_bad_value(values);
     if value < values.len() {
@@ -96,7 +97,7 @@ pub fn check(
     counts: &[u16],
     scratch: &mut [u32],
 ) -> Checked
-    ensures { λ r. ⌜ CheckedOf size terms (now (values .entry)) (now (codes .entry)) (now (order .entry)) (now (cuts .entry)) (now (counts .entry)) (now (scratch .entry)) r (now (scratch .exit)) ⌝ }
+    ensures { λ r. ⌜ CheckedOf size terms (before values) (before codes) (before order) (before cuts) (before counts) (before scratch) r (after scratch) ⌝ }
 {
     if !sheet::size_holds(size) {
         return Checked::Refused(SIZE_OUTSIDE, 0);

@@ -16,10 +16,11 @@ use Rattle.threshold.specs.Laws.{Measured}
 use Rattle.threshold.proofs.Law.{measured-comparable}
 use Rattle.sheet.specs.Sheet.{Sheet, rowAt, valueAt, isCut, countOf, placeOf, everyRow, orderOf}
 use Rattle.sheet.specs.Sound.{Sound}
+use Rattle.sheet.specs.Rows.{sentLeft, rowsAt}
 use Rattle.sheet.proofs.CutsExact.{rising as places-rise}
-use Rattle.leaves_score.specs.Column.{other, sizeOf}
+use Rattle.leaves_score.specs.Column.{other}
 use Rattle.tree.specs.declared.Question.{Question}
-use Rattle.leaves_score.specs.Root.{precedingPlace, cutThreshold, cutQuestion, markOf}
+use Rattle.leaves_score.specs.Root.{precedingPlace, cutThreshold, cutQuestion}
 use Rattle.side_laws.specs.Root.{AtCuts, Ascends}
 use Rattle.side_laws.proofs.Tallies.{tally-not}
 use Rattle.side_laws.proofs.Fair.{keyOf, can-compare, goes, lower-is, upper-is, threshold-measured}
@@ -168,32 +169,32 @@ module _ (s : Sheet) (sound : Sound s) (q : Question) (here : q .column < s .col
 
   -- key t lies from the key before place p on and below the key at p
   module _ (comp : T (comparable t)) (p : ℕ) (p-in : p ≤ s .rows) (from : (i : ℕ) → i < p → key (valueAt s c i) ≤ key t) (till : (i : ℕ) → p ≤ i → i < s .rows → key t < key (valueAt s c i)) where
-    pub parts-at : (i : ℕ) → i < s .rows → markOf s q (rowAt s c i) ≡ ltb i p
-    unfolding markOf
+    pub parts-at : (i : ℕ) → i < s .rows → sentLeft s q (rowAt s c i) ≡ ltb i p
+    unfolding sentLeft
     parts-at i h =
         goes s sound c here t comp (rowAt s c i) (row-in s sound c here i h)
         ∙ same-bool (leb (keyOf s c (rowAt s c i)) (key t)) (ltb i p)
         (λ y. order p i (λ l. absurd (omega (arith, leb→le (keyOf s c (rowAt s c i)) (key t) y, till i l h, at-row s sound c here i))) (λ l. lt→ltb i p l))
         (λ y. le→leb (keyOf s c (rowAt s c i)) (key t) (omega (arith, from i (ltb→lt i p y), at-row s sound c here i)))
 
-    pub rows-at : sizeOf s (markOf s q) ≡ p
-    unfolding sizeOf orderOf
+    pub rows-at : rowsAt s (sentLeft s q) ≡ p
+    unfolding rowsAt orderOf
     rows-at =
-        sym (sound .column c here .each-once (markOf s q))
-        ∙ tally-front (markOf s q) (table (rowAt s c) (s .rows)) 0 p (omega (arith, length-table (rowAt s c) (s .rows)))
+        sym (sound .column c here .each-once (sentLeft s q))
+        ∙ tally-front (sentLeft s q) (table (rowAt s c) (s .rows)) 0 p (omega (arith, length-table (rowAt s c) (s .rows)))
         (λ i l. sends i (omega arith) l) (λ i l k. keeps i (omega (arith, length-table (rowAt s c) (s .rows))) l)
       where
-        sends : (i : ℕ) → i < s .rows → i < p → T (markOf s q (getD (table (rowAt s c) (s .rows)) i 0))
-        sends i h l = subst (λ (r : ℕ). T (markOf s q r)) (sym (getD-table (rowAt s c) (s .rows) i 0 h)) (subst T (sym (parts-at i h)) (lt→ltb i p l))
+        sends : (i : ℕ) → i < s .rows → i < p → T (sentLeft s q (getD (table (rowAt s c) (s .rows)) i 0))
+        sends i h l = subst (λ (r : ℕ). T (sentLeft s q r)) (sym (getD-table (rowAt s c) (s .rows) i 0 h)) (subst T (sym (parts-at i h)) (lt→ltb i p l))
 
-        keeps : (i : ℕ) → i < s .rows → p ≤ i → T (not (markOf s q (getD (table (rowAt s c) (s .rows)) i 0)))
+        keeps : (i : ℕ) → i < s .rows → p ≤ i → T (not (sentLeft s q (getD (table (rowAt s c) (s .rows)) i 0)))
         keeps i h l =
-            subst (λ (r : ℕ). T (not (markOf s q r))) (sym (getD-table (rowAt s c) (s .rows) i 0 h))
-            (not-T (markOf s q (rowAt s c i)) (λ y. absurd (omega (arith, ltb→lt i p (subst T (parts-at i h) y)))))
+            subst (λ (r : ℕ). T (not (sentLeft s q r))) (sym (getD-table (rowAt s c) (s .rows) i 0 h))
+            (not-T (sentLeft s q (rowAt s c i)) (λ y. absurd (omega (arith, ltb→lt i p (subst T (parts-at i h) y)))))
 
-pub others-at : (s : Sheet) (q : Question) → sizeOf s (markOf s q) + sizeOf s (other (markOf s q)) ≡ s .rows
-unfolding sizeOf
-others-at s q = tally-not (markOf s q) (everyRow s) ∙ length-table (λ r. r) (s .rows)
+pub others-at : (s : Sheet) (q : Question) → rowsAt s (sentLeft s q) + rowsAt s (other (sentLeft s q)) ≡ s .rows
+unfolding rowsAt
+others-at s q = tally-not (sentLeft s q) (everyRow s) ∙ length-table (λ r. r) (s .rows)
 
 pub at-cuts : AtCuts
 at-cuts s sound c k here h =

@@ -12,9 +12,9 @@ use Rattle.sheet.specs.Sound.{Sound}
 use Rattle.side_scan.specs.declared.SideScan.{SideScan}
 use Rattle.leaves_score.specs.declared.two_sides.Two.{Two}
 use Rattle.side_scan.specs.OneSide.{restarted}
-use Rattle.leaves_score.specs.Column.{other, sideAtStart, scanRows, scanColumn}
+use Rattle.leaves_score.specs.Column.{other, sideAtStart, scanRows, scanColumn, through}
 use Rattle.leaves_score.specs.Scan.{perfect, scanColumns, startBoth, scanned, sidesOf}
-use Rattle.leaves_score.specs.Kept.{through, Alike, Owns, Live}
+use Rattle.leaves_score.specs.Kept.{Alike, Owns, Live}
 use Rattle.leaves_score.proofs.Single.{perfected, owns-through}
 use Rattle.leaves_score.proofs.Coupled.{both-rows}
 use Rattle.leaves_score.proofs.Columns.{side-alike, owns-alike}

@@ -13,13 +13,14 @@ use Rattle.basics.specs.Lists.{All, those}
 use Rattle.basics.proofs.Choice.{by-test, decide, either, and-left, and-right, nor-left, pick-true, pick-false, not-not, nand-left}
 use Rattle.sheet.specs.Sheet.{Sheet, valueOf, labelOf, orderOf}
 use Rattle.sheet.specs.Sound.{Sound}
+use Rattle.sheet.specs.Rows.{rowsAt}
 use Rattle.side_scan.specs.declared.SideScan.{SideScan}
 use Rattle.side_scan.specs.declared.cut_score.Best.{Best}
 use Rattle.side_scan.specs.Counts.{peaksOf}
 use Rattle.side_scan.specs.Scored.{fallen, verdictOf, splitBy}
 use Rattle.side_scan.specs.OneSide.{restarted, quiet, rowsLeft, leftBest, rightBest, totalOf, supported, takes, splitAt, bestAfter, skipAfter, closes, countRow, onlyCounted, scored, atStart}
-use Rattle.leaves_score.specs.Column.{sizeOf, ownOf, sideAtStart}
-use Rattle.leaves_score.specs.Kept.{through, Owns, Fits, Open}
+use Rattle.leaves_score.specs.Column.{ownOf, sideAtStart, through}
+use Rattle.leaves_score.specs.Kept.{Owns, Fits, Open}
 use Rattle.leaves_score.proofs.Counts.{rows-left}
 use Rattle.leaves_score.proofs.Live.{best-left, skip-taken, skip-left, skip-low, step-open, open-counted, open-scored, owns-start, start-live}
 use Rattle.side_laws.specs.Alone.{columnAlone, columnsAlone, alone}
@@ -193,8 +194,8 @@ module _ (s : Sheet) (support : ℕ) (mine : ℕ → Bool) where
   bare-start t o =
       ap (λ (x : List ℕ). made x (t .size) (t .labels) (t .least)) (o .own-is)
       ∙ ap (λ (x : ℕ). made (ownOf s mine) x (t .labels) (t .least)) (o .size-is)
-      ∙ ap (λ (x : ℕ). made (ownOf s mine) (sizeOf s mine) x (t .least)) (o .labels-is)
-      ∙ ap (λ (x : ℕ). made (ownOf s mine) (sizeOf s mine) (s .labels) x) (o .least-is)
+      ∙ ap (λ (x : ℕ). made (ownOf s mine) (rowsAt s mine) x (t .least)) (o .labels-is)
+      ∙ ap (λ (x : ℕ). made (ownOf s mine) (rowsAt s mine) (s .labels) x) (o .least-is)
     where
       made : List ℕ → ℕ → ℕ → ℕ → SideScan
       made own size labels least = atStart own size labels least ((sideAtStart s support mine) .best)

@@ -11,8 +11,9 @@ use Rattle.threshold.specs.Order.{key, comparable}
 use Rattle.threshold.proofs.Law.{measured-comparable}
 use Rattle.sheet.specs.Sheet.{Sheet, countOf, placeOf}
 use Rattle.sheet.specs.Sound.{Sound}
+use Rattle.sheet.specs.Rows.{sentLeft}
 use Rattle.leaves_score.specs.Column.{other}
-use Rattle.leaves_score.specs.Root.{cutThreshold, cutQuestion, markOf, sidesAt, errorsAt}
+use Rattle.leaves_score.specs.Root.{cutThreshold, cutQuestion, sidesAt, errorsAt}
 use Rattle.side_laws.specs.Opt.{Opt}
 use Rattle.side_laws.specs.Root.{AtCut, Moved, Moves}
 use Rattle.side_laws.proofs.Tests.{bit-not}
@@ -30,8 +31,8 @@ module _ (s : Sheet) (sound : Sound s) (c : ℕ) (here : c < s .columns) (i j : 
   abbrev u : Float
   u = cutThreshold s c j
 
-  more-left : (r : ℕ) → r < s .rows → bit (markOf s (cutQuestion s c i) r) ≤ bit (markOf s (cutQuestion s c j) r)
-  unfolding markOf
+  more-left : (r : ℕ) → r < s .rows → bit (sentLeft s (cutQuestion s c i) r) ≤ bit (sentLeft s (cutQuestion s c j) r)
+  unfolding sentLeft
   more-left r k =
       decide (leb (keyOf s c r) (key t))
       (λ z. omega (
@@ -43,19 +44,19 @@ module _ (s : Sheet) (sound : Sound s) (c : ℕ) (here : c < s .columns) (i j : 
       ))
       (λ n. omega (arith, ap bit (goes s sound c here t x r k), bit-false (leb (keyOf s c r) (key t)) n))
 
-  less-right : (r : ℕ) → r < s .rows → bit (other (markOf s (cutQuestion s c j)) r) ≤ bit (other (markOf s (cutQuestion s c i)) r)
-  less-right r k = bit-not (markOf s (cutQuestion s c i) r) (markOf s (cutQuestion s c j) r) (more-left r k)
+  less-right : (r : ℕ) → r < s .rows → bit (other (sentLeft s (cutQuestion s c j)) r) ≤ bit (other (sentLeft s (cutQuestion s c i)) r)
+  less-right r k = bit-not (sentLeft s (cutQuestion s c i) r) (sentLeft s (cutQuestion s c j) r) (more-left r k)
 
 -- ---- two cuts
 
 module _ (s : Sheet) (sound : Sound s) (support : ℕ) (small : support ≤ 1) (c : ℕ) (here : c < s .columns) where
-  pub left-opt : (k : ℕ) → Opt s (markOf s (cutQuestion s c k)) ((errorsAt s support c k) .0)
+  pub left-opt : (k : ℕ) → Opt s (sentLeft s (cutQuestion s c k)) ((errorsAt s support c k) .0)
   unfolding errorsAt sidesAt
-  left-opt k = optimal s sound support small (markOf s (cutQuestion s c k)) .left
+  left-opt k = optimal s sound support small (sentLeft s (cutQuestion s c k)) .left
 
-  pub right-opt : (k : ℕ) → Opt s (other (markOf s (cutQuestion s c k))) ((errorsAt s support c k) .1)
+  pub right-opt : (k : ℕ) → Opt s (other (sentLeft s (cutQuestion s c k))) ((errorsAt s support c k) .1)
   unfolding errorsAt sidesAt
-  right-opt k = optimal s sound support small (markOf s (cutQuestion s c k)) .right
+  right-opt k = optimal s sound support small (sentLeft s (cutQuestion s c k)) .right
 
   module _ (i j : ℕ) (h : i ≤ j) (k : j < countOf s c) where
     places : placeOf s c i ≤ placeOf s c j
@@ -78,9 +79,9 @@ module _ (s : Sheet) (sound : Sound s) (support : ℕ) (small : support ≤ 1) (
         let b : AtCut s c j = at-cuts s sound c j here k in
         let x : T (comparable (cutThreshold s c i)) = measured-comparable (cutThreshold s c i) (a .in-range) in
         let y : T (comparable (cutThreshold s c j)) = measured-comparable (cutThreshold s c j) (b .in-range) in
-        let l = grows s (markOf s (cutQuestion s c i)) (markOf s (cutQuestion s c j))
+        let l = grows s (sentLeft s (cutQuestion s c i)) (sentLeft s (cutQuestion s c j))
         (more-left s sound c here i j x y thresholds) _ _ (left-opt i) (left-opt j) in
-        let r = grows s (other (markOf s (cutQuestion s c j))) (other (markOf s (cutQuestion s c i)))
+        let r = grows s (other (sentLeft s (cutQuestion s c j))) (other (sentLeft s (cutQuestion s c i)))
         (less-right s sound c here i j x y thresholds) _ _ (right-opt j) (right-opt i) in
         record {
           ascends = places;

@@ -9,15 +9,15 @@ use Rattle.basics.specs.Choice.{pick, bit}
 use Rattle.basics.proofs.Lists.{tally-parts}
 use Rattle.threshold.proofs.Law.{measured-comparable}
 use Rattle.sheet.specs.Sheet.{Sheet, labelOf, everyRow}
+use Rattle.sheet.specs.Rows.{sentLeft, leftward, rightward, rowsAt, wrongAt}
 use Rattle.tree.specs.Answer.{sideError}
 use Rattle.tree.specs.declared.Leaf as leaf
 use Rattle.tree.specs.declared.Question.{Question}
 use Rattle.tree.specs.declared.Side.{Side}
 use Rattle.tree.specs.declared.Side.the-variants.{Leaf, Split}
-use Rattle.leaves_score.specs.Column.{other, sizeOf}
-use Rattle.leaves_score.specs.Root.{markOf}
+use Rattle.leaves_score.specs.Column.{other}
 use Rattle.leaves_score.specs.Scan.{sidesOf}
-use Rattle.side_laws.specs.Told.{leftPart, rightPart, wrongOf, Told}
+use Rattle.side_laws.specs.Told.{Told}
 use Rattle.side_laws.specs.Opt.{answer, mistakes, Proper, Grows, Mistaken}
 use Rattle.side_laws.proofs.Tallies.{rows-shift}
 use Rattle.side_laws.proofs.Sides.{tells}
@@ -31,17 +31,17 @@ split-bit true false l a b = omega arith
 split-bit false m l a b = omega arith
 
 module _ (s : Sheet) (mine : ℕ → Bool) where
-  pub leaf-mistakes : (l : leaf.Leaf) → mistakes s mine (Leaf l) ≡ wrongOf s mine (l .label)
-  unfolding mistakes wrongOf answer
+  pub leaf-mistakes : (l : leaf.Leaf) → mistakes s mine (Leaf l) ≡ wrongAt s mine (l .label)
+  unfolding mistakes wrongAt answer
   leaf-mistakes l = refl
 
   pub split-mistakes : (q : Question) (a b : leaf.Leaf)
-      → mistakes s mine (Split q a b) ≡ wrongOf s (leftPart s mine q) (a .label) + wrongOf s (rightPart s mine q) (b .label)
-  unfolding mistakes wrongOf answer
+      → mistakes s mine (Split q a b) ≡ wrongAt s (leftward s q mine) (a .label) + wrongAt s (rightward s q mine) (b .label)
+  unfolding mistakes wrongAt answer
   split-mistakes q a b =
-      tally-parts (λ r. leftPart s mine q r && not (eqb (labelOf s r) (a .label))) (λ r. rightPart s mine q r && not (eqb (labelOf s r) (b .label)))
-      (λ r. mine r && not (eqb (labelOf s r) (pick (markOf s q r) (a .label) (b .label))))
-      (λ r. split-bit (mine r) (markOf s q r) (labelOf s r) (a .label) (b .label)) (everyRow s)
+      tally-parts (λ r. leftward s q mine r && not (eqb (labelOf s r) (a .label))) (λ r. rightward s q mine r && not (eqb (labelOf s r) (b .label)))
+      (λ r. mine r && not (eqb (labelOf s r) (pick (sentLeft s q r) (a .label) (b .label))))
+      (λ r. split-bit (mine r) (sentLeft s q r) (labelOf s r) (a .label) (b .label)) (everyRow s)
 
   pub told-mistakes : (support : ℕ) (x : Side) → Told s support mine x → mistakes s mine x ≡ sideError x
   told-mistakes support (Leaf l) h = leaf-mistakes l ∙ sym (h .error-is)
@@ -83,8 +83,8 @@ module _ (s : Sheet) (few more : ℕ → Bool) (inside : (r : ℕ) → r < s .ro
             (λ r h. bits-less (few r) (more r) (not (eqb (labelOf s r) (answer s x r))) (inside r h)),
       )
 
-  pub mistakes-more : mistakes s more x + sizeOf s few ≤ mistakes s few x + sizeOf s more
-  unfolding mistakes sizeOf
+  pub mistakes-more : mistakes s more x + rowsAt s few ≤ mistakes s few x + rowsAt s more
+  unfolding mistakes rowsAt
   mistakes-more =
       rows-shift s (λ r. more r && not (eqb (labelOf s r) (answer s x r))) few (λ r. few r && not (eqb (labelOf s r) (answer s x r))) more
       (λ r h. bits-more (few r) (more r) (not (eqb (labelOf s r) (answer s x r))) (inside r h))

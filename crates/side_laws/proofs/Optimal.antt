@@ -14,6 +14,7 @@ use Rattle.basics.proofs.Lists.{all-map}
 use Rattle.threshold.specs.Order.{key}
 use Rattle.sheet.specs.Sheet.{Sheet, valueOf, labelOf, orderOf}
 use Rattle.sheet.specs.Sound.{Sound}
+use Rattle.sheet.specs.Rows.{rowsAt}
 use Rattle.tree.specs.Answer.{sideError}
 use Rattle.tree.specs.declared.Side.{Side}
 use Rattle.tree.specs.declared.Side.the-variants.{Leaf, Split}
@@ -21,8 +22,8 @@ use Rattle.side_scan.specs.declared.SideScan.{SideScan}
 use Rattle.side_scan.specs.declared.cut_score.Best.{Best}
 use Rattle.side_scan.specs.Scored.{fallen}
 use Rattle.side_scan.specs.Counts.{peaksOf}
-use Rattle.side_scan.specs.OneSide.{restarted, before, later, leftBest, rightBest, totalOf, splitAt, countRow, onlyCounted}
-use Rattle.leaves_score.specs.Column.{other, sizeOf, ownOf, sideAtStart}
+use Rattle.side_scan.specs.OneSide.{restarted, countedOf, later, leftBest, rightBest, totalOf, splitAt, countRow, onlyCounted}
+use Rattle.leaves_score.specs.Column.{other, ownOf, sideAtStart}
 use Rattle.leaves_score.specs.Kept.{Owns, Fits}
 use Rattle.side_scan.proofs.Commonest.{most}
 use Rattle.leaves_score.proofs.Counts.{fits-step, later-is}
@@ -72,7 +73,7 @@ module _ (s : Sheet) (sound : Sound s) (support : ℕ) (mine : ℕ → Bool) whe
       b-in = omega (arith, owns .labels-is)
 
       -- what the question gets right is what the cut at hand has of the two labels
-      at-cut : All (λ r. keyOf s c r ≤ k) done → All (λ r. k < keyOf s c r) rest → before t a + later t b + asked s mine c k a b ≡ sizeOf s mine
+      at-cut : All (λ r. keyOf s c r ≤ k) done → All (λ r. k < keyOf s c r) rest → countedOf t a + later t b + asked s mine c k a b ≡ rowsAt s mine
       at-cut low high =
           omega (
             arith,
@@ -87,20 +88,20 @@ module _ (s : Sheet) (sound : Sound s) (support : ℕ) (mine : ℕ → Bool) whe
             owns .size-is,
           )
 
-      left-best : before t a ≤ leftBest t
+      left-best : countedOf t a ≤ leftBest t
       unfolding peaksOf
-      left-best = most (before t) (t .labels) a a-in
+      left-best = most (countedOf t) (t .labels) a a-in
 
       right-best : later t b ≤ rightBest t
       unfolding peaksOf
       right-best = most (later t) (t .labels) b b-in
 
-      at-total : All (λ r. keyOf s c r ≤ k) done → All (λ r. k < keyOf s c r) rest → sizeOf s mine ≤ asked s mine c k a b + totalOf t
+      at-total : All (λ r. keyOf s c r ≤ k) done → All (λ r. k < keyOf s c r) rest → rowsAt s mine ≤ asked s mine c k a b + totalOf t
       at-total low high = omega (arith, at-cut low high, left-best, right-best)
 
-    -- no row before, or none to come: the question is as good as a leaf
+    -- no row countedOf, or none to come: the question is as good as a leaf
     at-start : (rest : List ℕ) (t : SideScan) → Past s mine c [] rest t → Fits s rest t → Owns s support mine t → All (λ r. k < keyOf s c r) rest
-        → sizeOf s mine ≤ asked s mine c k a b + leafCount s mine
+        → rowsAt s mine ≤ asked s mine c k a b + leafCount s mine
     at-start rest t past fits owns high =
         omega (
           arith,
@@ -112,7 +113,7 @@ module _ (s : Sheet) (sound : Sound s) (support : ℕ) (mine : ℕ → Bool) whe
         )
 
     at-end : (done : List ℕ) (t : SideScan) → Past s mine c done [] t → Fits s [] t → Owns s support mine t → All (λ r. keyOf s c r ≤ k) done
-        → sizeOf s mine ≤ asked s mine c k a b + leafCount s mine
+        → rowsAt s mine ≤ asked s mine c k a b + leafCount s mine
     at-end done t past fits owns low =
         omega (
           arith,
@@ -126,7 +127,7 @@ module _ (s : Sheet) (sound : Sound s) (support : ℕ) (mine : ℕ → Bool) whe
     empty [] h = refl
     empty (r ∷ rs) h = absurd (h .0)
 
-    -- the first row past the key has no cut before it: it is the first row
+    -- the first row past the key has no cut countedOf it: it is the first row
     no-cut : (g : Bool) (p : Float) (r : ℕ) → r < s .rows → Known s c g p → Till g p → k < keyOf s c r → T (not (g && not (eq p (valueOf s c r)))) → g ≡ false
     no-cut false p r i w h l n = refl
     no-cut true p r i w h l n =
@@ -138,18 +139,18 @@ module _ (s : Sheet) (sound : Sound s) (support : ℕ) (mine : ℕ → Bool) whe
 
     -- the question gets no more right than the first best
     pub question-low : (rs done : List ℕ) (t : SideScan) (w : Best) → Past s mine c done rs t → Fits s rs t → Owns s support mine t → Till (t .started) (t .previous)
-        → leafCount s mine ≤ w .score → sizeOf s mine ≤ asked s mine c k a b + (firstBest w (cuts s c b0 t rs)) .score
+        → leafCount s mine ≤ w .score → rowsAt s mine ≤ asked s mine c k a b + (firstBest w (cuts s c b0 t rs)) .score
     unfolding firstBest
     question-low [] done t w past fits owns till g =
         rw (cuts-none s c b0 t) (omega (arith, at-end done t past fits owns (all-till done [] (t .started) (t .previous) (past .between) till)))
     question-low (r ∷ rs) done t w past fits owns till g =
         rw (cuts-step s c b0 r rs t)
         (order (keyOf s c r) k
-        (λ l. by-test (λ z. sizeOf s mine ≤ asked s mine c k a b + (firstBest w z) .score) (starts t (valueOf s c r))
+        (λ l. by-test (λ z. rowsAt s mine ≤ asked s mine c k a b + (firstBest w z) .score) (starts t (valueOf s c r))
         (λ _. question-low rs (r ∷ done) next (better w (splitAt t c (valueOf s c r))) next-past next-fits next-owns (next-till l)
         (omega (arith, better-mine w (splitAt t c (valueOf s c r)))))
         (λ _. question-low rs (r ∷ done) next w next-past next-fits next-owns (next-till l) g))
-        (λ l. by-test (λ z. sizeOf s mine ≤ asked s mine c k a b + (firstBest w z) .score) (starts t (valueOf s c r))
+        (λ l. by-test (λ z. rowsAt s mine ≤ asked s mine c k a b + (firstBest w z) .score) (starts t (valueOf s c r))
         (λ _. omega (
           arith,
           at-total done (r ∷ rs) t past fits owns low (high l),
@@ -186,7 +187,7 @@ module _ (s : Sheet) (sound : Sound s) (support : ℕ) (mine : ℕ → Bool) whe
         high : k < keyOf s c r → All (λ x. k < keyOf s c x) (r ∷ rs)
         high l = (l, all-map (λ x. keyOf s c r ≤ keyOf s c x) (λ x. k < keyOf s c x) (λ x i. omega arith) rs (past .ascending .0))
 
-        start : All (λ x. k < keyOf s c x) (r ∷ rs) → t .started ≡ false → sizeOf s mine ≤ asked s mine c k a b + leafCount s mine
+        start : All (λ x. k < keyOf s c x) (r ∷ rs) → t .started ≡ false → rowsAt s mine ≤ asked s mine c k a b + leafCount s mine
         start h q =
             at-start (r ∷ rs) t
             (subst (λ (d : List ℕ). Past s mine c d (r ∷ rs) t) (empty done (subst (λ (g : Bool). Between s c done (r ∷ rs) g (t .previous)) q (past .between))) past) fits owns h
@@ -195,14 +196,14 @@ module _ (s : Sheet) (sound : Sound s) (support : ℕ) (mine : ℕ → Bool) whe
 
 module _ (s : Sheet) (sound : Sound s) (support : ℕ) (small : support ≤ 1) (mine : ℕ → Bool) where
   column-low : (c k a b : ℕ) (t : SideScan) → c < s .columns → a < s .labels → b < s .labels → Owns s support mine t → leafCount s mine ≤ t .best .score
-      → sizeOf s mine ≤ asked s mine c k a b + (columnAlone s mine c t) .best .score
+      → rowsAt s mine ≤ asked s mine c k a b + (columnAlone s mine c t) .best .score
   column-low c k a b t h ha hb o g =
       rw (column-first s sound support small mine c t h o g)
       (question-low s sound support mine c k a b h ha hb ((sideAtStart s support mine) .best) (those mine (orderOf s c)) [] (restarted t) (t .best)
       (past-cleared s sound mine c h t) (start-fits s sound support mine t o c h) (owns-cleared s support mine t o) (unfold restarted in tt) g)
 
   columns-low : (n d c k a b : ℕ) (t : SideScan) → d + n ≤ s .columns → d ≤ c → c < d + n → a < s .labels → b < s .labels → Owns s support mine t
-      → leafCount s mine ≤ t .best .score → sizeOf s mine ≤ asked s mine c k a b + (columnsAlone s mine n d t) .best .score
+      → leafCount s mine ≤ t .best .score → rowsAt s mine ≤ asked s mine c k a b + (columnsAlone s mine n d t) .best .score
   unfolding columnsAlone
   columns-low zero d c k a b t h hd hc ha hb o g = absurd (omega arith)
   columns-low (suc n) d c k a b t h hd hc ha hb o g =
@@ -213,12 +214,12 @@ module _ (s : Sheet) (sound : Sound s) (support : ℕ) (small : support ≤ 1) (
       (λ e. omega (arith, columns-ge s sound support small mine n (suc d) v (omega arith) p (omega arith), first e))
       (λ l. columns-low n (suc d) c k a b v (omega arith) l (omega arith) ha hb p (omega arith))
     where
-      first : d ≡ c → sizeOf s mine ≤ asked s mine c k a b + (columnAlone s mine d t) .best .score
+      first : d ≡ c → rowsAt s mine ≤ asked s mine c k a b + (columnAlone s mine d t) .best .score
       first e =
-          subst (λ (x : ℕ). sizeOf s mine ≤ asked s mine x k a b + (columnAlone s mine d t) .best .score) e (column-low d k a b t (omega arith) ha hb o g)
+          subst (λ (x : ℕ). rowsAt s mine ≤ asked s mine x k a b + (columnAlone s mine d t) .best .score) e (column-low d k a b t (omega arith) ha hb o g)
 
   -- no leaf and no question gets more right
-  side-best : (x : Side) → Proper s x → sizeOf s mine ≤ mistakes s mine x + (alone s support mine) .best .score
+  side-best : (x : Side) → Proper s x → rowsAt s mine ≤ mistakes s mine x + (alone s support mine) .best .score
   unfolding alone
   side-best (Leaf leaf) h =
       let l : ℕ = leaf .label in

@@ -15,10 +15,11 @@ use Rattle.basics.proofs.Lists.{all-at, all-map, tally-none, tally-parts, getD-
 use Rattle.threshold.specs.Order.{key, comparable}
 use Rattle.sheet.specs.Sheet.{Sheet, labelOf, rowAt, valueAt, countOf, placeOf, everyRow, orderOf}
 use Rattle.sheet.specs.Sound.{Sound}
+use Rattle.sheet.specs.Rows.{sentLeft, rowsAt}
 use Rattle.tree.specs.declared.Question.{Question}
 use Rattle.tree.specs.declared.Side.{Side}
-use Rattle.leaves_score.specs.Column.{other, sizeOf}
-use Rattle.leaves_score.specs.Root.{cutQuestion, markOf, sidesAt, errorsAt}
+use Rattle.leaves_score.specs.Column.{other}
+use Rattle.leaves_score.specs.Root.{cutQuestion, sidesAt, errorsAt}
 use Rattle.side_laws.specs.Opt.{answer, mistakes}
 use Rattle.side_laws.specs.Root.{SameRows, AnyRoot, rootMistakes, CutMistakes, RootLeast, OneSide}
 use Rattle.side_laws.proofs.Tallies.{rows-alike}
@@ -76,7 +77,7 @@ module _ (s : Sheet) (sound : Sound s) (c : ℕ) (here : c < s .columns) where
 -- ---- any root question
 
 module _ (s : Sheet) (sound : Sound s) (q : Question) (here : q .column < s .columns) (comp : T (comparable (q .threshold)))
-    (some : 1 ≤ sizeOf s (markOf s q)) (others : 1 ≤ sizeOf s (other (markOf s q))) where
+    (some : 1 ≤ rowsAt s (sentLeft s q)) (others : 1 ≤ rowsAt s (other (sentLeft s q))) where
   abbrev c : ℕ
   c = q .column
 
@@ -84,12 +85,12 @@ module _ (s : Sheet) (sound : Sound s) (q : Question) (here : q .column < s .col
   t = q .threshold
 
   abbrev count : ℕ
-  count = sizeOf s (markOf s q)
+  count = rowsAt s (sentLeft s q)
 
   count-is : tally (λ r. leb (keyOf s c r) (key t)) (orderOf s c) ≡ count
   count-is =
       sound .column c here .each-once (λ r. leb (keyOf s c r) (key t))
-      ∙ unfold sizeOf markOf in rows-alike s (λ r. leb (keyOf s c r) (key t)) (markOf s q) (λ r h. ap bit (sym (goes s sound c here t comp r h)))
+      ∙ unfold rowsAt sentLeft in rows-alike s (λ r. leb (keyOf s c r) (key t)) (sentLeft s q) (λ r h. ap bit (sym (goes s sound c here t comp r h)))
 
   row-is : (i : ℕ) → i < s .rows → keyOf s c (getD (orderOf s c) i 0) ≡ key (valueAt s c i)
   row-is i h = unfold orderOf valueAt in ap (keyOf s c) (getD-table (rowAt s c) (s .rows) i 0 h)
@@ -120,7 +121,7 @@ module _ (s : Sheet) (sound : Sound s) (q : Question) (here : q .column < s .col
       same : SameRows s q (cutQuestion s c (cut .0))
       same r h =
           let z = place-of s sound c here r h in
-          subst (λ (x : ℕ). markOf s q x ≡ markOf s (cutQuestion s c (cut .0)) x) (z .2)
+          subst (λ (x : ℕ). sentLeft s q x ≡ sentLeft s (cutQuestion s c (cut .0)) x) (z .2)
           (parts-at s sound q here comp count (omega (arith, inside)) from upon (z .0) (z .1)
           ∙ ap (λ (p : ℕ). ltb (z .0) p) (sym place-is) ∙ sym (at-cuts s sound c (cut .0) here (cut .1) .parts (z .0) (z .1)))
 
@@ -134,17 +135,17 @@ unfolding pick
 root-bit true l a b = omega arith
 root-bit false l a b = omega arith
 
-pub root-parts : (s : Sheet) (q : Question) (l r : Side) → rootMistakes s q l r ≡ mistakes s (markOf s q) l + mistakes s (other (markOf s q)) r
+pub root-parts : (s : Sheet) (q : Question) (l r : Side) → rootMistakes s q l r ≡ mistakes s (sentLeft s q) l + mistakes s (other (sentLeft s q)) r
 unfolding rootMistakes mistakes
 root-parts s q l r =
-    tally-parts (λ x. markOf s q x && not (eqb (labelOf s x) (answer s l x))) (λ x. not (markOf s q x) && not (eqb (labelOf s x) (answer s r x)))
-    (λ x. not (eqb (labelOf s x) (pick (markOf s q x) (answer s l x) (answer s r x))))
-    (λ x. root-bit (markOf s q x) (labelOf s x) (answer s l x) (answer s r x)) (everyRow s)
+    tally-parts (λ x. sentLeft s q x && not (eqb (labelOf s x) (answer s l x))) (λ x. not (sentLeft s q x) && not (eqb (labelOf s x) (answer s r x)))
+    (λ x. not (eqb (labelOf s x) (pick (sentLeft s q x) (answer s l x) (answer s r x))))
+    (λ x. root-bit (sentLeft s q x) (labelOf s x) (answer s l x) (answer s r x)) (everyRow s)
 
 pub cut-mistakes : CutMistakes
 unfolding errorsAt sidesAt
 cut-mistakes s sound support c k =
-    let m = mistaken s sound support (markOf s (cutQuestion s c k)) in
+    let m = mistaken s sound support (sentLeft s (cutQuestion s c k)) in
     omega (
       arith,
       root-parts s (cutQuestion s c k) (sidesAt s support c k .left) (sidesAt s support c k .right),
@@ -168,8 +169,8 @@ root-least s sound support small q here comp some others l r pl pr =
       omega (
         arith,
         root-parts s q l r,
-        same-mistakes s (markOf s q) (markOf s p) l (z .2),
-        same-mistakes s (other (markOf s q)) (other (markOf s p)) r (λ x h. ap not (z .2 x h)),
+        same-mistakes s (sentLeft s q) (sentLeft s p) l (z .2),
+        same-mistakes s (other (sentLeft s q)) (other (sentLeft s p)) r (λ x h. ap not (z .2 x h)),
         left-opt s sound support small (q .column) here (z .0) .least l pl,
         right-opt s sound support small (q .column) here (z .0) .least r pr,
       ),
@@ -182,7 +183,7 @@ both-bits false w = omega arith
 pub one-side : OneSide
 unfolding mistakes
 one-side s sound support small c here k x h =
-    let m : ℕ → Bool = markOf s (cutQuestion s c k) in
+    let m : ℕ → Bool = sentLeft s (cutQuestion s c k) in
     omega (
       arith,
       left-opt s sound support small c here k .least x h,

@@ -15,6 +15,7 @@ use Rattle.threshold.specs.Laws.{Measured}
 use Rattle.threshold.proofs.Law.{measured-comparable}
 use Rattle.sheet.specs.Sheet.{Sheet, labelOf}
 use Rattle.sheet.specs.Sound.{Sound}
+use Rattle.sheet.specs.Rows.{sentLeft, leftward, rightward, rowsAt, wrongAt}
 use Rattle.tree.specs.Answer.{sideError}
 use Rattle.tree.specs.declared.Question.{Question}
 use Rattle.tree.specs.declared.Side.the-variants.{Leaf, Split}
@@ -22,13 +23,12 @@ use Rattle.side_scan.specs.declared.SideScan.{SideScan}
 use Rattle.side_scan.specs.declared.cut_score.Best.{Best}
 use Rattle.side_scan.specs.Commonest.{commonest, mostOf}
 use Rattle.side_scan.specs.OneSide.{ownAt, leafLabel, leafScore, sideOf}
-use Rattle.leaves_score.specs.Root.{markOf}
-use Rattle.leaves_score.specs.Column.{other, sizeOf, labelled, ownOf, sideAtStart}
+use Rattle.leaves_score.specs.Column.{other, labelled, ownOf, sideAtStart}
 use Rattle.leaves_score.specs.Kept.{Owns}
 use Rattle.side_scan.proofs.Commonest.{commonest-in}
 use Rattle.leaves_score.proofs.Live.{own-at, owns-start}
 use Rattle.side_laws.specs.Alone.{alone, sideAlone}
-use Rattle.side_laws.specs.Told.{leftPart, rightPart, wrongOf, SplitTold, Told, Tells, ErrorsAddUp}
+use Rattle.side_laws.specs.Told.{SplitTold, Told, Tells, ErrorsAddUp}
 use Rattle.side_laws.proofs.Decouple.{owns-columns, decouples}
 use Rattle.side_laws.proofs.Tallies.{rows-alike, both-parts}
 use Rattle.side_laws.proofs.Fair.{keyOf, goes, lower-is, upper-is, threshold-measured}
@@ -51,35 +51,35 @@ module _ (s : Sheet) (sound : Sound s) (mine : ℕ → Bool) (q : Question) (her
   abbrev t : Float
   t = q .threshold
 
-  pub left-wrong-is : (l : ℕ) → partWrong s mine (sent s c (key t)) l ≡ wrongOf s (leftPart s mine q) l
-  unfolding wrongOf markOf
+  pub left-wrong-is : (l : ℕ) → partWrong s mine (sent s c (key t)) l ≡ wrongAt s (leftward s q mine) l
+  unfolding wrongAt sentLeft
   left-wrong-is l =
-      rows-alike s (λ r. mine r && (sent s c (key t) r && not (eqb (labelOf s r) l))) (λ r. leftPart s mine q r && not (eqb (labelOf s r) l))
-      (λ r h. left-bits (mine r) (markOf s q r) (sent s c (key t) r) (not (eqb (labelOf s r) l)) (goes s sound c here t comp r h))
+      rows-alike s (λ r. mine r && (sent s c (key t) r && not (eqb (labelOf s r) l))) (λ r. leftward s q mine r && not (eqb (labelOf s r) l))
+      (λ r h. left-bits (mine r) (sentLeft s q r) (sent s c (key t) r) (not (eqb (labelOf s r) l)) (goes s sound c here t comp r h))
 
-  pub right-wrong-is : (l : ℕ) → partWrong s mine (kept s c (key t)) l ≡ wrongOf s (rightPart s mine q) l
-  unfolding wrongOf markOf
+  pub right-wrong-is : (l : ℕ) → partWrong s mine (kept s c (key t)) l ≡ wrongAt s (rightward s q mine) l
+  unfolding wrongAt sentLeft
   right-wrong-is l =
-      rows-alike s (λ r. mine r && (kept s c (key t) r && not (eqb (labelOf s r) l))) (λ r. rightPart s mine q r && not (eqb (labelOf s r) l))
-      (λ r h. left-bits (mine r) (not (markOf s q r)) (kept s c (key t) r) (not (eqb (labelOf s r) l)) (ap not (goes s sound c here t comp r h)))
+      rows-alike s (λ r. mine r && (kept s c (key t) r && not (eqb (labelOf s r) l))) (λ r. rightward s q mine r && not (eqb (labelOf s r) l))
+      (λ r h. left-bits (mine r) (not (sentLeft s q r)) (kept s c (key t) r) (not (eqb (labelOf s r) l)) (ap not (goes s sound c here t comp r h)))
 
-  left-rows-is : partRows s mine (sent s c (key t)) ≡ sizeOf s (leftPart s mine q)
-  unfolding sizeOf markOf
+  left-rows-is : partRows s mine (sent s c (key t)) ≡ rowsAt s (leftward s q mine)
+  unfolding rowsAt sentLeft
   left-rows-is =
-      rows-alike s (λ r. mine r && sent s c (key t) r) (leftPart s mine q)
-      (λ r h. part-bits (mine r) (markOf s q r) (sent s c (key t) r) (goes s sound c here t comp r h))
+      rows-alike s (λ r. mine r && sent s c (key t) r) (leftward s q mine)
+      (λ r h. part-bits (mine r) (sentLeft s q r) (sent s c (key t) r) (goes s sound c here t comp r h))
 
-  right-rows-is : partRows s mine (kept s c (key t)) ≡ sizeOf s (rightPart s mine q)
-  unfolding sizeOf markOf
+  right-rows-is : partRows s mine (kept s c (key t)) ≡ rowsAt s (rightward s q mine)
+  unfolding rowsAt sentLeft
   right-rows-is =
-      rows-alike s (λ r. mine r && kept s c (key t) r) (rightPart s mine q)
-      (λ r h. part-bits (mine r) (not (markOf s q r)) (kept s c (key t) r) (ap not (goes s sound c here t comp r h)))
+      rows-alike s (λ r. mine r && kept s c (key t) r) (rightward s q mine)
+      (λ r h. part-bits (mine r) (not (sentLeft s q r)) (kept s c (key t) r) (ap not (goes s sound c here t comp r h)))
 
 -- ---- a leaf
 
 -- rows of a label and rows of the others
-pub wrong-rows : (s : Sheet) (mine : ℕ → Bool) (l : ℕ) → labelled s mine l + wrongOf s mine l ≡ sizeOf s mine
-unfolding labelled wrongOf sizeOf
+pub wrong-rows : (s : Sheet) (mine : ℕ → Bool) (l : ℕ) → labelled s mine l + wrongAt s mine l ≡ rowsAt s mine
+unfolding labelled wrongAt rowsAt
 wrong-rows s mine l = both-parts s mine (λ r. eqb (labelOf s r) l)
 
 module _ (s : Sheet) (sound : Sound s) (support : ℕ) (mine : ℕ → Bool) where
@@ -144,14 +144,14 @@ module _ (s : Sheet) (sound : Sound s) (support : ℕ) (mine : ℕ → Bool) whe
     unfolding sideOf
     side-told g = by-test (Told s support mine) (eqb (t .best .score) (leafScore t)) (λ _. leaf-told) (λ n. split-case (t .best) g n)
 
-    error-case : (b : Best) → Good s support mine b → T (not (eqb (b .score) (leafScore t))) → b .score + (b .left .error + b .right .error) ≡ sizeOf s mine
+    error-case : (b : Best) → Good s support mine b → T (not (eqb (b .score) (leafScore t))) → b .score + (b .left .error + b .right .error) ≡ rowsAt s mine
     error-case b (inl e) n = absurd (neqb (b .score) (leafScore t) n (e ∙ sym leaf-is))
     error-case b (inr x) n = x .errors
 
-    pub side-error : Good s support mine (t .best) → t .best .score + sideError (sideOf t) ≡ sizeOf s mine
+    pub side-error : Good s support mine (t .best) → t .best .score + sideError (sideOf t) ≡ rowsAt s mine
     unfolding sideOf
     side-error g =
-        by-test (λ z. t .best .score + sideError z ≡ sizeOf s mine) (eqb (t .best .score) (leafScore t))
+        by-test (λ z. t .best .score + sideError z ≡ rowsAt s mine) (eqb (t .best .score) (leafScore t))
         (λ y. omega (arith, eqb→eq (t .best .score) (leafScore t) y, leaf-count, wrong-rows s mine (leafLabel t), owns .size-is)) (λ n. error-case (t .best) g n)
 
   pub owns-alone : Owns s support mine (alone s support mine)

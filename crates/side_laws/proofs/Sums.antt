@@ -9,8 +9,8 @@ use Rattle.sheet.specs.Sheet.{Sheet}
 use Rattle.sheet.specs.Sound.{Sound}
 use Rattle.side_scan.specs.declared.SideScan.{SideScan}
 use Rattle.side_scan.specs.OneSide.{restarted}
-use Rattle.leaves_score.specs.Column.{sideAtStart, rowStep}
-use Rattle.leaves_score.specs.Kept.{through, Owns, Fits, Live}
+use Rattle.leaves_score.specs.Column.{sideAtStart, rowStep, through}
+use Rattle.leaves_score.specs.Kept.{Owns, Fits, Live}
 use Rattle.leaves_score.proofs.Live.{own-at, live-step, start-live, owns-start, owns-cleared}
 use Rattle.side_laws.specs.Alone.{columnsAlone, AddUp, AddsUp}
 use Rattle.leaves_score.proofs.Single.{owns-through}

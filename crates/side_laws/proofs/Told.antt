@@ -17,14 +17,15 @@ use Rattle.threshold.specs.Order.{key}
 use Rattle.threshold.specs.Threshold.{thresholdOf}
 use Rattle.sheet.specs.Sheet.{Sheet, valueOf, labelOf, everyRow, orderOf, leastRows}
 use Rattle.sheet.specs.Sound.{Sound}
+use Rattle.sheet.specs.Rows.{rowsAt}
 use Rattle.side_scan.specs.declared.SideScan.{SideScan}
 use Rattle.side_scan.specs.declared.cut_score.Best.{Best}
 use Rattle.side_scan.specs.Commonest.{commonest, mostOf}
 use Rattle.side_scan.specs.Scored.{fallen, verdictOf, splitBy}
 use Rattle.side_scan.specs.Counts.{peaksOf}
-use Rattle.side_scan.specs.OneSide.{restarted, quiet, before, later, rowsLeft, leftBest, rightBest, totalOf, supported, takes, splitAt, bestAfter, countRow, onlyCounted, scored}
-use Rattle.leaves_score.specs.Column.{sizeOf, ownOf, sideAtStart}
-use Rattle.leaves_score.specs.Kept.{through, Owns, Fits, Live}
+use Rattle.side_scan.specs.OneSide.{restarted, quiet, countedOf, later, rowsLeft, leftBest, rightBest, totalOf, supported, takes, splitAt, bestAfter, countRow, onlyCounted, scored}
+use Rattle.leaves_score.specs.Column.{ownOf, sideAtStart, through}
+use Rattle.leaves_score.specs.Kept.{Owns, Fits, Live}
 use Rattle.side_scan.proofs.Commonest.{commonest-in}
 use Rattle.leaves_score.proofs.Counts.{later-is, rows-left, left-few, right-few}
 use Rattle.leaves_score.proofs.Live.{best-taken, best-left, step-open, step-closed, open-counted, open-scored, owns-start, owns-cleared, start-live}
@@ -65,7 +66,7 @@ pub record Taken (s : Sheet) (support : ℕ) (mine : ℕ → Bool) (b : Best) : 
   pub left-in : b .left .label < s .labels
   pub right-in : b .right .label < s .labels
   pub beats : leafCount s mine < b .score
-  pub errors : b .score + (b .left .error + b .right .error) ≡ sizeOf s mine
+  pub errors : b .score + (b .left .error + b .right .error) ≡ rowsAt s mine
   -- whatever key a threshold between them has
   pub parts : (k : ℕ) → keyOf s (b .question .column) lowerRow ≤ k → k < keyOf s (b .question .column) upperRow → PartsAt s support mine b k
 
@@ -110,10 +111,10 @@ module _ (s : Sheet) (sound : Sound s) (support : ℕ) (mine : ℕ → Bool) (c 
     in-labels : (l : ℕ) → l < t .labels → l < s .labels
     in-labels l h = omega (arith, owns .labels-is)
 
-    left-wrong : leftBest t + tally (λ x. not (eqb (labelOf s x) (commonest (before t) (t .labels)))) done ≡ t .counted
+    left-wrong : leftBest t + tally (λ x. not (eqb (labelOf s x) (commonest (countedOf t) (t .labels)))) done ≡ t .counted
     unfolding peaksOf mostOf
     left-wrong =
-        let l : ℕ = commonest (before t) (t .labels) in
+        let l : ℕ = commonest (countedOf t) (t .labels) in
         omega (arith, past .befores l (in-labels l (commonest-in _ _ (fits .some))), tally-not (λ x. eqb (labelOf s x) l) done, past .rows)
 
     right-wrong : rightBest t + tally (λ x. not (eqb (labelOf s x) (commonest (later t) (t .labels)))) (r ∷ rs) ≡ suc (length rs)
@@ -130,7 +131,7 @@ module _ (s : Sheet) (sound : Sound s) (support : ℕ) (mine : ℕ → Bool) (c 
     unfolding splitBy peaksOf
     parts-at k low high a z =
         record {
-          left-error = omega (arith, left-tally s mine c k done (r ∷ rs) (past .parts) low high (λ x. not (eqb (labelOf s x) (commonest (before t) (t .labels)))), left-wrong);
+          left-error = omega (arith, left-tally s mine c k done (r ∷ rs) (past .parts) low high (λ x. not (eqb (labelOf s x) (commonest (countedOf t) (t .labels)))), left-wrong);
           right-error = omega (
             arith,
             right-tally s mine c k done (r ∷ rs) (past .parts) low high (λ x. not (eqb (labelOf s x) (commonest (later t) (t .labels)))),

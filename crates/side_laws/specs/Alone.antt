@@ -1,5 +1,5 @@
--- One side by itself: its own rows in each column's order, with no word of the other side and no early end. The two-side scan answers what the two
--- sides answer by themselves. Definitions, and the laws as statements.
+-- For a signer. One side by itself: its own rows in each column's order, with no word of the other side and no early end. The two-side scan
+-- answers what the two sides answer by themselves. Definitions, and the laws as statements.
 use mathlib.Core.Path.{_≡_}
 use Prim.Native.Nat.{ℕ, zero, suc, _+_, _<_}
 use mathlib.Core.Bool.{Bool, not}
@@ -9,11 +9,11 @@ use lib.Dec.{T, eqb}
 use Rattle.basics.specs.Lists.{tally, those}
 use Rattle.sheet.specs.Sheet.{Sheet, labelOf, orderOf}
 use Rattle.sheet.specs.Sound.{Sound}
+use Rattle.sheet.specs.Rows.{rowsAt}
 use Rattle.tree.specs.declared.Side.{Side}
 use Rattle.side_scan.specs.declared.SideScan.{SideScan}
-use Rattle.leaves_score.specs.Kept.{through}
-use Rattle.side_scan.specs.OneSide.{restarted, before, sideOf}
-use Rattle.leaves_score.specs.Column.{other, sizeOf, labelled, sideAtStart}
+use Rattle.side_scan.specs.OneSide.{restarted, countedOf, sideOf}
+use Rattle.leaves_score.specs.Column.{other, labelled, sideAtStart, through}
 use Rattle.leaves_score.specs.Scan.{sidesOf}
 
 unfoldable pub columnAlone : Sheet → (ℕ → Bool) → ℕ → SideScan → SideScan
@@ -40,8 +40,8 @@ Decouples = (s : Sheet) → Sound s → (support : ℕ) (mark : ℕ → Bool) �
 
 -- "For each label, rows counted and rows to come always add up to the side's own count.": wherever a side's scan of a column stands, unless it is closed
 pub record AddUp (s : Sheet) (mine : ℕ → Bool) (rest : List ℕ) (t : SideScan) : Type 0 where
-  pub labels : (l : ℕ) → l < s .labels → before t l + tally (λ r. eqb (labelOf s r) l) rest ≡ labelled s mine l
-  pub rows : t .counted + length rest ≡ sizeOf s mine
+  pub labels : (l : ℕ) → l < s .labels → countedOf t l + tally (λ r. eqb (labelOf s r) l) rest ≡ labelled s mine l
+  pub rows : t .counted + length rest ≡ rowsAt s mine
 
 abbrev pub AddsUp : Type 0
 AddsUp =

@@ -1,5 +1,6 @@
--- At every support a side's answer is the first best of what its columns offer: a column offers its supported cuts, up to and with the first cut past which
--- all rows have one label. Skip, the other way of closing and the early ends have no part in it. Definitions, and the law as a statement.
+-- For a signer. At every support a side's answer is the first best of what its columns offer: a column offers its supported cuts, up to and
+-- with the first cut past which all rows have one label. Skip, the other way of closing and the early ends have no part in it. Definitions, and the
+-- law as a statement.
 use mathlib.Core.Path.{_≡_}
 use Prim.Native.Nat.{ℕ, zero, suc}
 use mathlib.Core.Bool.{Bool, not, _&&_}

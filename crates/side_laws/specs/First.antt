@@ -1,5 +1,5 @@
--- With support at most 1 a side's answer is the first best: the leaf, then the first cut, in column and place order, whose total is strictly the best so
--- far. Neither skip nor closing nor an early end has a part in it. Definitions, and the law as a statement.
+-- For a signer. With support at most 1 a side's answer is the first best: the leaf, then the first cut, in column and place order, whose total
+-- is strictly the best so far. Neither skip nor closing nor an early end has a part in it. Definitions, and the law as a statement.
 use mathlib.Core.Path.{_≡_}
 use Prim.Native.Nat.{ℕ, zero, suc, _≤_}
 use mathlib.Core.Bool.{Bool, not, _&&_}

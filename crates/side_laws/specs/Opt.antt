@@ -1,4 +1,5 @@
--- The least mistakes of a leaf or one question on a set of rows, and what a side's error has to do with it. Definitions, and the laws as statements.
+-- For a signer. The least mistakes of a leaf or one question on a set of rows, and what a side's error has to do with it. Definitions, and the
+-- laws as statements.
 use mathlib.Core.Path.{_≡_}
 use Prim.Native.Nat.{ℕ, _+_, _≤_, _<_}
 use mathlib.Core.Bool.{Bool, not, _&&_}
@@ -8,17 +9,17 @@ use Rattle.basics.specs.Lists.{tally}
 use Rattle.threshold.specs.Order.{comparable}
 use Rattle.sheet.specs.Sheet.{Sheet, labelOf, everyRow}
 use Rattle.sheet.specs.Sound.{Sound}
+use Rattle.sheet.specs.Rows.{sentLeft, rowsAt}
 use Rattle.tree.specs.Answer.{sideError}
 use Rattle.tree.specs.declared.Side.{Side}
 use Rattle.tree.specs.declared.Side.the-variants.{Leaf, Split}
-use Rattle.leaves_score.specs.Column.{other, sizeOf}
-use Rattle.leaves_score.specs.Root.{markOf}
+use Rattle.leaves_score.specs.Column.{other}
 use Rattle.leaves_score.specs.Scan.{sidesOf}
 
 -- the label that a leaf or a question gives a row
 unfoldable pub answer : Sheet → Side → ℕ → ℕ
 answer s (Leaf leaf) r = leaf .label
-answer s (Split question left right) r = pick (markOf s question r) (left .label) (right .label)
+answer s (Split question left right) r = pick (sentLeft s question r) (left .label) (right .label)
 
 -- its mistakes on a set of rows
 unfoldable pub mistakes : Sheet → (ℕ → Bool) → Side → ℕ
@@ -49,7 +50,7 @@ SideOptimal = (s : Sheet) → Sound s → (support : ℕ) → support ≤ 1 → 
 abbrev pub Grows : Type 0
 Grows =
     (s : Sheet) (few more : ℕ → Bool) → ((r : ℕ) → r < s .rows → bit (few r) ≤ bit (more r)) → (n m : ℕ) → Opt s few n → Opt s more m
-    → (n ≤ m) × (m + sizeOf s few ≤ n + sizeOf s more)
+    → (n ≤ m) × (m + rowsAt s few ≤ n + rowsAt s more)
 
 -- at every support: a side's error is the mistakes that it makes on its rows
 pub record BothMistaken (s : Sheet) (support : ℕ) (mark : ℕ → Bool) : Type 0 where

@@ -1,5 +1,5 @@
--- Root splits at the cuts of a column: what their errors have to do with one another, and that no other root threshold does anything else.
--- Definitions, and the laws as statements.
+-- For a signer. Root splits at the cuts of a column: what their errors have to do with one another, and that no other root threshold does
+-- anything else. Definitions, and the laws as statements.
 use mathlib.Core.Path.{_≡_}
 use Prim.Native.Nat.{ℕ, _+_, _-_, _≤_, _<_}
 use mathlib.Core.Bool.{not, true}
@@ -10,10 +10,11 @@ use Rattle.threshold.specs.Order.{comparable, key}
 use Rattle.threshold.specs.Laws.{Measured}
 use Rattle.sheet.specs.Sheet.{Sheet, labelOf, rowAt, valueAt, countOf, placeOf, beforeCut, everyRow}
 use Rattle.sheet.specs.Sound.{Sound}
+use Rattle.sheet.specs.Rows.{sentLeft, rowsAt}
 use Rattle.tree.specs.declared.Question.{Question}
 use Rattle.tree.specs.declared.Side.{Side}
-use Rattle.leaves_score.specs.Column.{other, sizeOf}
-use Rattle.leaves_score.specs.Root.{precedingPlace, cutQuestion, markOf, sidesAt, errorsAt}
+use Rattle.leaves_score.specs.Column.{other}
+use Rattle.leaves_score.specs.Root.{precedingPlace, cutQuestion, sidesAt, errorsAt}
 use Rattle.side_laws.specs.Opt.{answer, mistakes, Proper}
 
 -- ---- a cut
@@ -23,9 +24,9 @@ use Rattle.side_laws.specs.Opt.{answer, mistakes, Proper}
 pub record AtCut (s : Sheet) (c k : ℕ) : Type 0 where
   pub precedes : key (valueAt s c (precedingPlace s c k)) ≡ key (valueAt s c (placeOf s c k - 1))
   pub in-range : Measured (cutQuestion s c k .threshold)
-  pub parts : (i : ℕ) → i < s .rows → markOf s (cutQuestion s c k) (rowAt s c i) ≡ ltb i (placeOf s c k)
-  pub lefts : sizeOf s (markOf s (cutQuestion s c k)) ≡ beforeCut s c k
-  pub rights : beforeCut s c k + sizeOf s (other (markOf s (cutQuestion s c k))) ≡ s .rows
+  pub parts : (i : ℕ) → i < s .rows → sentLeft s (cutQuestion s c k) (rowAt s c i) ≡ ltb i (placeOf s c k)
+  pub lefts : rowsAt s (sentLeft s (cutQuestion s c k)) ≡ beforeCut s c k
+  pub rights : beforeCut s c k + rowsAt s (other (sentLeft s (cutQuestion s c k))) ≡ s .rows
 
 abbrev pub AtCuts : Type 0
 AtCuts = (s : Sheet) → Sound s → (c k : ℕ) → c < s .columns → k < countOf s c → AtCut s c k
@@ -53,18 +54,18 @@ Ascends = (s : Sheet) → Sound s → (c i j : ℕ) → c < s .columns → i < j
 
 -- the two questions send the same rows left
 abbrev pub SameRows : Sheet → Question → Question → Type 0
-SameRows s q p = (r : ℕ) → r < s .rows → markOf s q r ≡ markOf s p r
+SameRows s q p = (r : ℕ) → r < s .rows → sentLeft s q r ≡ sentLeft s p r
 
 -- one that leaves rows on both sides parts the rows as a cut of its column does
 abbrev pub AnyRoot : Type 0
 AnyRoot =
     (s : Sheet) → Sound s → (q : Question) → q .column < s .columns → T (comparable (q .threshold))
-    → 1 ≤ sizeOf s (markOf s q) → 1 ≤ sizeOf s (other (markOf s q))
+    → 1 ≤ rowsAt s (sentLeft s q) → 1 ≤ rowsAt s (other (sentLeft s q))
     → (k : ℕ) × (k < countOf s (q .column)) × SameRows s q (cutQuestion s (q .column) k)
 
 -- the mistakes of a tree that asks q first, and l or r of the rows on its two sides
 unfoldable pub rootMistakes : Sheet → Question → Side → Side → ℕ
-rootMistakes s q l r = tally (λ x. not (eqb (labelOf s x) (pick (markOf s q x) (answer s l x) (answer s r x)))) (everyRow s)
+rootMistakes s q l r = tally (λ x. not (eqb (labelOf s x) (pick (sentLeft s q x) (answer s l x) (answer s r x)))) (everyRow s)
 
 -- at every support: the mistakes of the tree that a cut gives are its two errors
 abbrev pub CutMistakes : Type 0
@@ -77,7 +78,7 @@ CutMistakes =
 abbrev pub RootLeast : Type 0
 RootLeast =
     (s : Sheet) → Sound s → (support : ℕ) → support ≤ 1 → (q : Question) → q .column < s .columns → T (comparable (q .threshold))
-    → 1 ≤ sizeOf s (markOf s q) → 1 ≤ sizeOf s (other (markOf s q)) → (l r : Side) → Proper s l → Proper s r
+    → 1 ≤ rowsAt s (sentLeft s q) → 1 ≤ rowsAt s (other (sentLeft s q)) → (l r : Side) → Proper s l → Proper s r
     → (k : ℕ) × (k < countOf s (q .column)) × ((errorsAt s support (q .column) k) .0 + (errorsAt s support (q .column) k) .1 ≤ rootMistakes s q l r)
 
 -- nor does a leaf or a question that is asked of every row: a root that sends all rows to one side gains nothing

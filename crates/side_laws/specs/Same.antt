@@ -1,4 +1,4 @@
--- What the scan does not look at: the cut lists, and marks past the rows. Statements.
+-- For a signer. What the scan does not look at: the cut lists, and marks past the rows. Statements.
 use mathlib.Core.Path.{_≡_}
 use Prim.Native.Nat.{ℕ, _<_}
 use mathlib.Core.Bool.{Bool}

@@ -9,7 +9,8 @@ use Rattle.side_scan.specs.declared.best_counts.Peaks.{Peaks}
 use Rattle.side_scan.specs.declared.cut_score.CutVerdict.{CutVerdict}
 use Rattle.side_scan.specs.declared.cut_score.Cut.{Cut}
 use Rattle.side_scan.specs.Counts.{counted, coming, peaksOf}
-use Rattle.side_scan.specs.Scored.{closedBy, verdictOf, untilAfter, cutScored, Scorable}
+use Rattle.side_scan.specs.Scored.{closedBy, verdictOf}
+use Rattle.side_scan.specs.Passing.{untilAfter, cutScored, Scorable}
 use Rattle.side_scan.proofs.Commonest.{most-under}
 
 -- no label has more rows than there are before the cut, or from it on

@@ -8,7 +8,8 @@ use Rattle.side_scan.specs.declared.cut_score.Best.{Best}
 use Rattle.side_scan.specs.declared.SideScan.{SideScan}
 use Rattle.side_scan.specs.declared.best_counts.Peaks.{Peaks}
 use Rattle.side_scan.specs.declared.cut_score.CutVerdict.{CutVerdict}
-use Rattle.side_scan.specs.Scored.{fallen, quietBy, verdictOf, splitBy, Scorable}
+use Rattle.side_scan.specs.Scored.{fallen, quietBy, verdictOf, splitBy}
+use Rattle.side_scan.specs.Passing.{Scorable}
 use Rattle.side_scan.specs.OneSide.{quiet, rowsLeft, peaksAt, verdictAt, splitAt, bestAfter, countRow, onlyCounted, scored, stepOf}
 use Rattle.side_scan.specs.Step.{Ready}
 

@@ -1,4 +1,4 @@
--- The commonest label, and the running maximum that finds it. Definitions, and the law that they agree; `proofs/Commonest.antt` proves it.
+-- For a signer. The commonest label, and the running maximum that finds it. Definitions, and the law that they agree; `proofs/Commonest.antt` proves it.
 use mathlib.Core.Path.{_≡_}
 use Prim.Native.Nat.{ℕ, zero, suc, _≤_}
 use lib.Dec.{ltb}

@@ -1,4 +1,4 @@
--- The best counts of the labels about a cut, and over all rows, with the labels that have them; and what the counts must be for that. Definitions only.
+-- For a signer. The best counts of the labels about a cut, and over all rows, with the labels that have them; and what the counts must be for that. Definitions only.
 use Prim.Native.Nat.{ℕ, _-_, _≤_, _<_}
 use mathlib.Core.List.{List}
 use lib.ListN.{getD, replicate}

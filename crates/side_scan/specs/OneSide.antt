@@ -1,5 +1,5 @@
--- The scan of one side of a root split (document 01, "Scan of the two sides"): its leaf, what a row does to it, and the side that it ends in; over the record that
--- the code keeps. Definitions only.
+-- For a signer. The scan of one side of a root split (document 01, "Scan of the two sides"): its leaf, what a row does to it, and the side that it ends in;
+-- over the record that the code keeps. Definitions only.
 use Prim.Native.Nat.{ℕ, _+_, _-_}
 use mathlib.Core.Bool.{Bool, true, false}
 use mathlib.Core.List.{List}
@@ -74,8 +74,8 @@ unfoldable pub quiet : SideScan → Float → Bool
 quiet t value = quietBy (t .started) (t .previous) value (fallen (t .skip))
 
 -- rows of label l counted so far, and those from here on
-abbrev pub before : SideScan → ℕ → ℕ
-before t l = getD (t .seen) l 0
+abbrev pub countedOf : SideScan → ℕ → ℕ
+countedOf t l = getD (t .seen) l 0
 
 abbrev pub later : SideScan → ℕ → ℕ
 later t l = getD (t .own) l 0 - getD (t .seen) l 0
@@ -84,7 +84,7 @@ later t l = getD (t .own) l 0 - getD (t .seen) l 0
 abbrev pub rowsLeft : SideScan → ℕ
 rowsLeft t = t .size - t .counted
 
--- Otherwise the cut before it is scored: what it comes to, and its split, are those of cut_score, which says them by numbers.
+-- Otherwise the cut countedOf it is scored: what it comes to, and its split, are those of cut_score, which says them by numbers.
 abbrev pub peaksAt : SideScan → Peaks
 peaksAt t = peaksOf (t .own) (t .seen) (t .labels)
 

@@ -4,6 +4,7 @@ ghost use Prim.Native.Nat.{_≤_};
 ghost use lib.IntN.{pos};
 ghost use Rattle.sheet.specs.Limits.{mostLabels};
 ghost use Rattle.side_scan.specs.Counts.{Countable, peaksOf, peakOf};
+ghost use Rattle.basics.specs.Lent.{before};
 use sheet::MOST_LABELS;
 
 // The best counts of the labels before a cut and from it on, and the labels that have them.
@@ -29,7 +30,7 @@ fn signed(count: u16) -> i32
 // Both running maxima begin at -1, so that the first label is taken even where it has no rows.
 pub fn find_peaks(own: &[u16; MOST_LABELS], seen: &[u16; MOST_LABELS], labels: usize) -> Peaks
     requires { ⌜ Countable (now own) (now seen) labels ⌝ }
-    ensures { λ r. ⌜ r ≡ peaksOf (now (own .entry)) (now (seen .entry)) labels ⌝ }
+    ensures { λ r. ⌜ r ≡ peaksOf (before own) (before seen) labels ⌝ }
 {
     let mut before: i32 = -1;
     let mut left: usize = 0;
@@ -62,7 +63,7 @@ pub fn find_peaks(own: &[u16; MOST_LABELS], seen: &[u16; MOST_LABELS], labels: u
 // The commonest label of a side, and how many rows it has. Before a row is counted all are to come.
 pub(crate) fn commonest_label(own: &[u16; MOST_LABELS], labels: usize) -> Peak
     requires { ⌜ (1 ≤ labels) × (labels ≤ mostLabels) ⌝ }
-    ensures { λ r. ⌜ r ≡ peakOf (now (own .entry)) labels ⌝ }
+    ensures { λ r. ⌜ r ≡ peakOf (before own) labels ⌝ }
 {
     let none: [u16; MOST_LABELS] = [0; MOST_LABELS];
     let peaks = find_peaks(own, &none, labels);

@@ -3,6 +3,7 @@ ghost use mathlib.Core.Path.{_≡_};
 ghost use Prim.Native.Nat.{_+_, _-_, _≤_};
 ghost use Rattle.sheet.specs.Limits.{mostRows};
 ghost use Rattle.side_scan.specs.Scored.{fallen, repeated, quietBy, takenBy, closedBy, verdictOf, splitBy};
+ghost use Rattle.basics.specs.Lent.{after};
 use crate::best_counts::Peaks;
 use tree::Leaf;
 use tree::Question;
@@ -22,8 +23,8 @@ pub struct Share {
     pub labels: usize,
 }
 
-// Where a side stands in a column: the rows counted, the count up to which its rows are skipped, and the last row counted.
-pub struct Stand {
+// How far a side has come in a column: the rows counted, the count up to which its rows are skipped, and the last row counted.
+pub struct Counting {
     pub counted: u32,
     pub until: u32,
     pub last: usize,

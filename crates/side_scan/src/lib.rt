@@ -7,6 +7,7 @@ ghost use Prim.Native.Nat.{_≤_};
 ghost use Rattle.sheet.specs.Limits.{mostLabels};
 ghost use Rattle.side_scan.specs.OneSide.{restarted, stepOf, sideOf};
 ghost use Rattle.side_scan.specs.Step.{Steppable, leafScan, SideSized};
+ghost use Rattle.basics.specs.Lent.{before, after};
 use crate::best_counts::commonest_label;
 use crate::best_counts::find_peaks;
 use crate::cut_score::Best;
@@ -80,7 +81,7 @@ fn step(mut side: SideScan, column: usize, label: usize, value: f64) -> SideScan
 // The same in place.
 fn advance(side: &mut SideScan, column: usize, label: usize, value: f64)
     requires { ⌜ Steppable (now side) label ⌝ }
-    ensures { λ _. ⌜ now (side .exit) ≡ stepOf (now (side .entry)) column label value ⌝ }
+    ensures { λ _. ⌜ after side ≡ stepOf (before side) column label value ⌝ }
 {
     *side = step(*side, column, label, value);
 }

@@ -1,4 +1,5 @@
--- A column sorted by value, and what a threshold does to it. Definitions, and one law as a statement; `proofs/Front.antt` proves it.
+-- For a signer. A column sorted by value, and what a threshold does to it. Definitions, and one law as a statement; `proofs/Front.antt` proves
+-- it.
 use mathlib.Core.Path.{_≡_}
 use Prim.Native.Nat.{ℕ, suc, _-_, _<_}
 use mathlib.Core.List.{List}
@@ -38,5 +39,5 @@ abbrev pub PartsAtTheCut : Type 0
 PartsAtTheCut = (values : List Float) (i : ℕ) → Sorted values → IsCut values i → leftOfCut values i ≡ i
 
 -- how many go left at the threshold before place i; if the values are a sorted column and i is a cut, i of them
-abbrev pub SentLeft : List Float → ℕ → ℕ → Type 0
-SentLeft values i sent = (sent ≡ leftOfCut values i) × (Sorted values → IsCut values i → sent ≡ i)
+abbrev pub LeftAtCut : List Float → ℕ → ℕ → Type 0
+LeftAtCut values i sent = (sent ≡ leftOfCut values i) × (Sorted values → IsCut values i → sent ≡ i)

@@ -1,4 +1,4 @@
--- What holds of a threshold, as statements; `proofs/` proves each.
+-- For a signer. What holds of a threshold, as statements; `proofs/` proves each.
 use mathlib.Core.Path.{_≡_}
 use mathlib.Core.Bool.{not, _&&_}
 use lib.Dec.{T}

@@ -1,4 +1,4 @@
--- The order of f64. Zero and minus zero are one value. Definitions, and the laws as statements; `proofs/Keys.antt` proves each.
+-- For a signer. The order of f64. Zero and minus zero are one value. Definitions, and the laws as statements; `proofs/Keys.antt` proves each.
 use mathlib.Core.Path.{_≡_}
 use mathlib.Core.Logic.{_⊎_}
 use Prim.Native.Nat.{ℕ, _+_, _-_, _*_, _/_, _^_}

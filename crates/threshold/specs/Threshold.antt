@@ -1,4 +1,4 @@
--- The threshold between two values (document 01, "Threshold"), by IEEE 754's operations on binary64. Definitions only.
+-- For a signer. The threshold between two values (document 01, "Threshold"), by IEEE 754's operations on binary64. Definitions only.
 use mathlib.Core.Bool.{Bool, true, false, _&&_, cond}
 use lib.IntN.{pos}
 use lib.Ieee.{Float, fin, binary64, add, div, lt, le}

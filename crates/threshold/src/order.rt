@@ -5,12 +5,13 @@ ghost use Prim.Native.Nat.{_<_};
 ghost use lib.Ieee.{nan};
 ghost use lib.ListN.{length, getD};
 ghost use Rattle.threshold.specs.Order.{isBelow};
+ghost use Rattle.basics.specs.Lent.{before};
 use basics::wide_entry;
 
 // Whether a row's value is below another's.
 pub fn below(values: &[f64], a: u16, b: u16) -> bool
     requires { ⌜ (a < length (now values)) × (b < length (now values)) ⌝ }
-    ensures { λ r. ⌜ r ≡ isBelow (getD (now (values .entry)) a nan) (getD (now (values .entry)) b nan) ⌝ }
+    ensures { λ r. ⌜ r ≡ isBelow (getD (before values) a nan) (getD (before values) b nan) ⌝ }
 {
     values[wide_entry(a)] < values[wide_entry(b)]
 }

@@ -1,6 +1,6 @@
--- Document 01, "Reasons a call turns back": "A search answers Turned back (number, place), Kept (error, tried) or Found (error, column, threshold,
--- two sides, tried). A side is a leaf (label, error) or a split (column, threshold, two labels, two errors)." What each case says, in the
--- document's numbers and values. Definitions only.
+-- For a signer. Document 01, "Reasons a call turns back": "A search answers Turned back (number, place), Kept (error, tried) or Found (error,
+-- column, threshold, two sides, tried). A side is a leaf (label, error) or a split (column, threshold, two labels, two errors)." What each case says,
+-- in the document's numbers and values. Definitions only.
 use Prim.Native.Nat.{ℕ, _+_}
 use mathlib.Core.Option.{Option, none, some}
 use Rattle.tree.specs.declared.Side.{Side}

@@ -22,16 +22,16 @@ returns c =
     let start = c .before .before .before .before .before in
     let a = start .args in
     let call = c .before .before .queue-part in
-    let b = call .ensures .1 in (
+    let queued = call .ensures in (
       record {
         standing-is = refl;
         zeros = refl;
         queue =
-            call .ensures .0 .contents-are
+            queued .contents-are
             ∙ (λ k. none-waits (ringOf (a .rows) (a .scratch .now)) (record { head = 0; waiting = 0 }) (omega arith) k ++ part-full (record { first = a .first; last = a .last; left = Nothing; right = Nothing }) (start .pre .1) k);
-        sane = call .ensures .0 .sane;
+        sane = queued .sane;
       },
-      record { size = b .size; rest = b .rest; table-is = refl; ring-is = refl },
+      queued .kept,
     )
 
 pub begin-column-spec : {M : Type 1} → statement M

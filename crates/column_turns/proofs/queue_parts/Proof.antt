@@ -9,9 +9,7 @@ use Rattle.interval_pruner.specs.declared.Parts.{Parts}
 use Rattle.interval_pruner.specs.Column.{recordedColumn}
 use Rattle.interval_pruner.specs.Pruner.{partsOf}
 use Rattle.column_search.specs.Search.{part, upperPart, lowerPart}
-use Rattle.column_turns.specs.Lent.{tableOf, ringOf, Became}
 use Rattle.column_turns.specs.Parts.{Pushing, Queued}
-use Rattle.column_turns.proofs.Lent.{became-then}
 use Rattle.column_turns.proofs.Queueing.{none-queued, both-queued, upper-pushing, lower-pushing, parts-none, parts-both}
 use Rattle.column_turns.proofs.queue_parts.Statement.{statement}
 use Rattle.column_turns.proofs.queue_parts.Tie as tie
@@ -42,8 +40,8 @@ queue-part-requires-2 c κs =
     let call = c .before .before .before .queue-part in
     let ys : List ℕ = call .last .1 .1 .1 .0 in
     let first : Queued (a .rows) (a .scratch .now) ys (a .queue) (call .result) (part (upperPart (a .bound) (a .cut) (p .upper))) =
-    subst (λ (z : Bound). Queued (a .rows) (a .scratch .now) ys (a .queue) (call .result) (part z)) upper (call .ensures .0) in
-    subst (Pushing (a .rows) ys (call .result)) (sym lower) (lower-pushing (a .rows) (a .places .now) (a .zeros) (a .bound) (a .cut) (a .queue) (a .scratch .now) (start .pre) (a .reach .gap) (a .reach .small) (a .reach .excess) ys (call .result) first (call .ensures .1))
+    subst (λ (z : Bound). Queued (a .rows) (a .scratch .now) ys (a .queue) (call .result) (part z)) upper (call .ensures) in
+    subst (Pushing (a .rows) ys (call .result)) (sym lower) (lower-pushing (a .rows) (a .places .now) (a .zeros) (a .bound) (a .cut) (a .queue) (a .scratch .now) (start .pre) (a .reach .gap) (a .reach .small) (a .reach .excess) ys (call .result) first)
 
 returns-2 : tie.Need-returns-2
 returns-2 c =
@@ -56,15 +54,13 @@ returns-2 c =
     let call = c .before .before .before .before .before .before .queue-part in
     let ys : List ℕ = call .last .1 .1 .1 .0 in
     let first : Queued (a .rows) (a .scratch .now) ys (a .queue) (call .result) (part (upperPart (a .bound) (a .cut) (p .upper))) =
-    subst (λ (z : Bound). Queued (a .rows) (a .scratch .now) ys (a .queue) (call .result) (part z)) upper (call .ensures .0) in
+    subst (λ (z : Bound). Queued (a .rows) (a .scratch .now) ys (a .queue) (call .result) (part z)) upper (call .ensures) in
     let last = c .before .before .queue-part2 in
     let zs : List ℕ = last .last .1 .1 .1 .0 in
     let second : Queued (a .rows) ys zs (call .result) (last .result) (part (lowerPart (a .bound) (a .cut) (p .lower))) =
-    subst (λ (z : Bound). Queued (a .rows) ys zs (call .result) (last .result) (part z)) lower (last .ensures .0) in (
-      rw (parts-both (a .rows) (a .places .now) (a .zeros) (a .bound) (a .cut) (a .queue) (a .scratch .now) (start .pre) (a .reach .gap) (a .reach .small) (a .reach .excess) (λ h. absurd (omega (arith, h, c .before .before .before .before .before .before .before .before .before .before .before .if1 .left)))) (both-queued (a .rows) (a .scratch .now) ys zs (a .queue) (call .result) (last .result) _ _ first second),
-      subst (λ (l : List ℕ). Became (a .rows) (a .scratch .now) zs l (ringOf (a .rows) zs)) (call .ensures .1 .table-is)
-          (became-then (a .rows) (a .scratch .now) ys zs (tableOf (a .rows) (a .scratch .now)) (ringOf (a .rows) ys) (tableOf (a .rows) ys) (ringOf (a .rows) zs) (call .ensures .1) (last .ensures .1)),
-    )
+    subst (λ (z : Bound). Queued (a .rows) ys zs (call .result) (last .result) (part z)) lower (last .ensures) in
+    rw (parts-both (a .rows) (a .places .now) (a .zeros) (a .bound) (a .cut) (a .queue) (a .scratch .now) (start .pre) (a .reach .gap) (a .reach .small) (a .reach .excess) (λ h. absurd (omega (arith, h, c .before .before .before .before .before .before .before .before .before .before .before .if1 .left))))
+    (both-queued (a .rows) (a .scratch .now) ys zs (a .queue) (call .result) (last .result) _ _ first second)
 
 pub queue-parts-spec : {M : Type 1} → statement M
 queue-parts-spec =

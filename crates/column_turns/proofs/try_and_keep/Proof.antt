@@ -7,6 +7,7 @@ use Rattle.tree.specs.Answer.{sideError}
 use Rattle.leaves_score.specs.Root.{errorsAt}
 use Rattle.interval_pruner.specs.Pruner.{zerosAfter, recordedAfter}
 use Rattle.column_turns.specs.Try.{triedTree, treeAt}
+use Rattle.column_turns.proofs.Lent.{kept-then}
 use Rattle.column_turns.proofs.Try.{tried-few}
 use Rattle.column_turns.proofs.try_and_keep.Statement.{statement}
 use Rattle.column_turns.proofs.try_and_keep.Tie as tie
@@ -39,8 +40,7 @@ returns c counts =
       zeros-are = kept .ensures .0 ∙ (λ t. zerosAfter (a .zeros) (a .at .cut) (left t) (right t));
       lent =
           record {
-            size = kept .ensures .1 .size ∙ tree .ensures .1 .size;
-            rest = kept .ensures .1 .rest ∙ tree .ensures .1 .rest;
+            kept = kept-then _ _ _ _ (tree .ensures .1 .kept) (kept .ensures .1 .kept);
             table-is = kept .ensures .1 .table-is ∙ (λ t. recordedAfter (tree .ensures .1 .table-is t) (a .at .cut) (left t) (right t));
             ring-is = kept .ensures .1 .ring-is ∙ tree .ensures .1 .ring-is;
           };

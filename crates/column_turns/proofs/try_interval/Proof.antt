@@ -1,10 +1,11 @@
 -- `column_turns::try_interval` meets its contract. The middle of an interval of listed cuts is a listed cut; the rest is `Steps`. Assumes nothing.
-use mathlib.Core.Path.{refl, sym, ap, _∙_, subst}
+use mathlib.Core.Path.{sym, ap, _∙_, subst}
 use Prim.Native.Nat.{ℕ, _+_}
 use native.Mathlib.Omega.{arith}
 use mathlib.Core.List.{List, _++_, []}
 use borrow.Author.Needs.{needs}
 use Rattle.basics.specs.Choice.{pick}
+use Rattle.sheet.specs.Sheet.{Sheet}
 use Rattle.sheet.specs.Check.{sheetOf}
 use Rattle.interval_queue.specs.Ring.{contents}
 use Rattle.column_search.specs.Search.{middle, tryCut}
@@ -14,6 +15,7 @@ use Rattle.column_turns.specs.Try.{searchedColumn}
 use Rattle.column_turns.specs.Steps.{reachOf}
 use Rattle.column_turns.specs.Parts.{PartsWaiting, partsQueued}
 use Rattle.column_turns.specs.Course.{Matches}
+use Rattle.column_turns.proofs.Lent.{kept-then}
 use Rattle.column_turns.proofs.Places.{placed-in}
 use Rattle.column_turns.proofs.Steps.{matches-next}
 use Rattle.column_turns.proofs.Turns.{to-try, to-part, middle-row}
@@ -61,16 +63,20 @@ returns c =
     let reach = c .before .before .before .before .before .reach-of .ensures ∙ ap (λ (z : Standing). reachOf (a .terms) (tried .result .tree .error) (z .error)) next in
     let over = c .before .before .before .before .before .before .ends-column .ensures in
     let attempted = tried .ensures (a .counts .now) in
-    let waiting = call .ensures .0 ∙ (λ k. pick (over k) []
+    let queued = call .ensures in
+    let s : Sheet = sheetOf (a .size) (a .values .now) (a .codes .now) (a .order .now) (a .cuts .now) (a .counts .now) in
+    let waiting = queued .contents-are ∙ (λ k. pick (over k) []
     (contents (ringOf (a .size .rows) ys) (a .course .queue)
-    ++ partsQueued (places k) (reach k .gap) (reach k .small) (tried .result .zeros) (reach k .excess) (middle (a .bound)) (a .bound))) in (
-      (λ p state matches.
-          subst (λ (z : Standing). Matches (sheetOf (a .size) (a .values .now) (a .codes .now) (a .order .now) (a .cuts .now) (a .counts .now)) (a .terms) (a .column) p zs (record { standing = z; zeros = tried .result .zeros; queue = call .result })
-          (tryCut (searchedColumn (sheetOf (a .size) (a .values .now) (a .codes .now) (a .order .now) (a .cuts .now) (a .counts .now)) (a .terms) (a .column)) (a .terms .bound) state (state .queue) (a .bound))) (sym next)
-          (matches-next (sheetOf (a .size) (a .values .now) (a .codes .now) (a .order .now) (a .cuts .now) (a .counts .now)) (a .terms) (a .column) p (a .scratch .now) ys zs (a .course) state (a .bound) (tried .result) (call .result)
-          (start .pre .enough) (middle-row (a .size) (a .values .now) (a .codes .now) (a .order .now) (a .cuts .now) (a .counts .now) (a .terms) (a .column) (a .scratch .now) (a .course) (a .bound) (start .pre)) matches attempted (call .ensures .1 .1) waiting (call .ensures .1 .0))),
-      record { size = call .ensures .1 .1 .size ∙ attempted .lent .size; rest = call .ensures .1 .1 .rest ∙ attempted .lent .rest; table-is = refl; ring-is = refl },
-    )
+    ++ partsQueued (places k) (reach k .gap) (reach k .small) (tried .result .zeros) (reach k .excess) (middle (a .bound)) (a .bound))) in
+    record {
+      matches = λ p state matches.
+          subst (λ (z : Standing). Matches s (a .terms) (a .column) p zs (record { standing = z; zeros = tried .result .zeros; queue = call .result })
+          (tryCut (searchedColumn s (a .terms) (a .column)) (a .terms .bound) state (state .queue) (a .bound))) (sym next)
+          (matches-next s (a .terms) (a .column) p (a .scratch .now) ys zs (a .course) state (a .bound) (tried .result) (call .result) (start .pre .enough)
+          (middle-row (a .size) (a .values .now) (a .codes .now) (a .order .now) (a .cuts .now) (a .counts .now) (a .terms) (a .column) (a .scratch .now) (a .course) (a .bound) (start .pre))
+          matches attempted (queued .table-is) waiting (queued .sane));
+      kept = kept-then (a .size .rows) (a .scratch .now) ys zs (attempted .lent .kept) (queued .kept);
+    }
 
 pub try-interval-spec : {M : Type 1} → statement M
 try-interval-spec =

@@ -50,7 +50,7 @@ clear-requires c κs =
     let told = c .before .before .before .before .before .before .enum-told .given .1 in
     let fit = accepted-whole s (a .terms) xs (c .before .before .before .before .before .before .before .before .before .before .before .before .before .before .before .before .before .shared-slice-known .given) (sym (check .ensures .answers) ∙ told) in
     let enough = still-enough s (a .terms) xs ys (check .result) (check .ensures .answers) told (check .ensures .words) (fit .1) in
-    omega (arith, enough .words, c .before .before .before .before .search-columns .ensures .1 .size)
+    omega (arith, enough .words, c .before .before .before .before .search-columns .ensures .kept .size)
 
 returns : tie.Need-returns
 returns c =
@@ -82,10 +82,10 @@ returns-2 c =
     record {
       answers =
           c .answer-of .ensures
-          ∙ found-answer s (a .terms) xs (check .result) (check .ensures .answers) told (searching .result) (searching .ensures .0);
+          ∙ found-answer s (a .terms) xs (check .result) (check .ensures .answers) told (searching .result) (searching .ensures .standing-is);
       words =
           c .before .before .before .clear .ensures
-          ∙ cleared-again s (a .terms) xs ys (check .result) (check .ensures .answers) told (check .ensures .words) zs _ _ (searching .ensures .1);
+          ∙ cleared-again s (a .terms) xs ys (check .result) (check .ensures .answers) told (check .ensures .words) zs (searching .ensures .kept);
     }
 
 pub search-spec : {M : Type 1} → statement M

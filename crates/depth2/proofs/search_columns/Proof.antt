@@ -1,14 +1,14 @@
 -- `depth2::search_columns` meets its contract. The loop's invariant: the standing is that of a progress from which the definition comes to its end. Assumes nothing.
-use mathlib.Core.Path.{refl, sym, ap, _∙_, subst}
+use mathlib.Core.Path.{sym, ap, _∙_, subst}
 use Prim.Native.Nat.{_+_, _-_, _≤_, _<_}
 use native.Mathlib.Omega.{arith}
 use borrow.Author.Needs.{needs}
 use Rattle.sheet.specs.Sheet.{Sheet}
 use Rattle.sheet.specs.Check.{sheetOf}
-use Rattle.column_turns.specs.Lent.{tableOf, ringOf, Became}
+use Rattle.column_turns.specs.Lent.{RestKept}
 use Rattle.depth2.specs.Columns.{BetweenColumns}
 use Rattle.column_turns.specs.declared.interval_steps.Standing.{Standing}
-use Rattle.column_turns.proofs.Lent.{became-enough, became-then}
+use Rattle.column_turns.proofs.Lent.{kept-enough, kept-then, kept-same}
 use Rattle.depth2.proofs.Columns.{between-start, between-next, between-stop, between-end}
 use Rattle.depth2.proofs.search_columns.Statement.{statement}
 use Rattle.depth2.proofs.search_columns.Tie as tie
@@ -17,7 +17,7 @@ abbrev Inv-loop : tie.InvT-loop
 Inv-loop size terms values codes order cuts counts scratch₀ standing₀ column₀ scratch standing column =
     (column ≤ size .columns)
     × BetweenColumns (sheetOf size values codes order cuts counts) terms column standing
-    × Became (size .rows) scratch₀ scratch (tableOf (size .rows) scratch) (ringOf (size .rows) scratch)
+    × RestKept (size .rows) scratch₀ scratch
 
 abbrev μ-loop : tie.MeasureT-loop
 μ-loop size terms values codes order cuts counts scratch₀ standing₀ column₀ scratch standing column =
@@ -27,7 +27,7 @@ loop-holds : tie.Need-loop-holds Inv-loop μ-loop
 loop-holds c =
     let a = c .before .before .before .before .before .before .before .args in
     let s : Sheet = (sheetOf (a .size) (a .values .now) (a .codes .now) (a .order .now) (a .cuts .now) (a .counts .now)) in
-    (omega arith, subst (BetweenColumns s (a .terms) 0) (sym (c .nothing-tried .ensures)) (between-start s (a .terms)), record { size = refl; rest = refl; table-is = refl; ring-is = refl })
+    (omega arith, subst (BetweenColumns s (a .terms) 0) (sym (c .nothing-tried .ensures)) (between-start s (a .terms)), kept-same (a .size .rows) (a .scratch .now))
 
 search-column-requires : tie.Need-search-column-requires Inv-loop μ-loop
 search-column-requires c κs =
@@ -37,12 +37,12 @@ search-column-requires c κs =
     record {
       whole = start .pre .0;
       here = omega arith;
-      enough = became-enough (a .size .rows) (a .scratch .now) (loop .scratch) _ _ (start .pre .1) (loop .inv .2);
+      enough = kept-enough (a .size .rows) (a .scratch .now) (loop .scratch) (start .pre .1) (loop .inv .2);
       few = omega (arith, loop .inv .1 .few, loop .inv .0, start .pre .0 .sound .limited .columns-most);
     }
 
 same-length : tie.Need-same-length Inv-loop μ-loop
-same-length c = c .before .before .before .before .before .search-column .ensures .1 .size ∙ c .before .before .before .before .before .before .before .before .before .loop .inv .2 .size
+same-length c = c .before .before .before .before .before .search-column .ensures .kept .size ∙ c .before .before .before .before .before .before .before .before .before .loop .inv .2 .size
 
 returns : tie.Need-returns Inv-loop μ-loop
 returns c =
@@ -52,11 +52,12 @@ returns c =
     let loop = c .before .before .before .before .before .before .before .before .before .loop in
     let call = c .before .before .before .before .before .search-column in
     let here : loop .column < a .size .columns = omega (arith, c .before .before .before .before .before .before .before .if1 .taken) in
-    let e = ap (λ (z : Standing). z .error) (call .ensures .0) in
-    let after = became-then (a .size .rows) (a .scratch .now) (loop .scratch) _ _ _ _ _ (loop .inv .2) (call .ensures .1) in (
-      call .ensures .0 ∙ between-stop s (a .terms) (loop .column) (loop .standing) (start .pre .0) here (loop .inv .1) (omega (arith, e, c .if2 .taken)),
-      after,
-    )
+    let e = ap (λ (z : Standing). z .error) (call .ensures .standing-is) in
+    let kept = kept-then (a .size .rows) (a .scratch .now) (loop .scratch) _ (loop .inv .2) (call .ensures .kept) in
+    record {
+      standing-is = call .ensures .standing-is ∙ between-stop s (a .terms) (loop .column) (loop .standing) (start .pre .0) here (loop .inv .1) (omega (arith, e, c .if2 .taken));
+      kept = kept;
+    }
 
 add-column : tie.Need-add-column Inv-loop μ-loop
 add-column c =
@@ -74,12 +75,12 @@ loop-again c =
     let loop = c .before .before .before .before .before .before .before .before .before .loop in
     let call = c .before .before .before .before .before .search-column in
     let here : loop .column < a .size .columns = omega (arith, c .before .before .before .before .before .before .before .if1 .taken) in
-    let e = ap (λ (z : Standing). z .error) (call .ensures .0) in
-    let after = became-then (a .size .rows) (a .scratch .now) (loop .scratch) _ _ _ _ _ (loop .inv .2) (call .ensures .1) in (
+    let e = ap (λ (z : Standing). z .error) (call .ensures .standing-is) in
+    let kept = kept-then (a .size .rows) (a .scratch .now) (loop .scratch) _ (loop .inv .2) (call .ensures .kept) in (
       omega arith,
-      subst (BetweenColumns s (a .terms) (loop .column + 1)) (sym (call .ensures .0))
+      subst (BetweenColumns s (a .terms) (loop .column + 1)) (sym (call .ensures .standing-is))
           (between-next s (a .terms) (loop .column) (loop .standing) (start .pre .0) here (loop .inv .1) (omega (arith, e, c .if2 .left))),
-      after,
+      kept,
     )
 
 same-length-2 : tie.Need-same-length-2 Inv-loop μ-loop
@@ -89,7 +90,11 @@ returns-2 : tie.Need-returns-2 Inv-loop μ-loop
 returns-2 c =
     let a = c .before .before .before .before .before .before .before .before .before .before .args in
     let loop = c .before .before .loop in
-    (between-end (sheetOf (a .size) (a .values .now) (a .codes .now) (a .order .now) (a .cuts .now) (a .counts .now)) (a .terms) (loop .column) (loop .standing) (omega (arith, loop .inv .0)) (loop .inv .1), loop .inv .2)
+    record {
+      standing-is =
+          between-end (sheetOf (a .size) (a .values .now) (a .codes .now) (a .order .now) (a .cuts .now) (a .counts .now)) (a .terms) (loop .column) (loop .standing) (omega (arith, loop .inv .0)) (loop .inv .1);
+      kept = loop .inv .2;
+    }
 
 pub search-columns-spec : {M : Type 1} → statement M
 search-columns-spec =

@@ -7,7 +7,8 @@ use lib.Dec.{eqb}
 use Rattle.basics.specs.Choice.{pick}
 use Rattle.basics.proofs.Choice.{pick-true, pick-false, eqb-yes, eqb-no}
 use Rattle.interval_pruner.specs.declared.Tried.the-variants.{Nothing, Cut}
-use Rattle.interval_pruner.specs.Pruner.{highestZero, lowestZero, farthest}
+use Rattle.interval_pruner.specs.Pruner.{highestZero, lowestZero}
+use Rattle.interval_pruner.specs.Steps.{farthest}
 use Rattle.interval_pruner.proofs.farthest_zero.Statement.{statement}
 use Rattle.interval_pruner.proofs.farthest_zero.Tie as tie
 

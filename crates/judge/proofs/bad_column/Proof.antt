@@ -1,7 +1,7 @@
 -- `judge::bad_column` meets its contract: it goes by the definition's two cases. Assumes nothing.
 use borrow.Author.Needs.{needs}
 use mathlib.Core.Path.{sym, ap}
-use Rattle.judge.specs.Passing.{badColumn}
+use Rattle.judge.specs.Judge.{badColumn}
 use Rattle.judge.proofs.bad_column.Statement.{statement}
 use Rattle.judge.proofs.bad_column.Tie as tie
 

@@ -5,7 +5,7 @@ use Rattle.tree.specs.declared.Side.{Side}
 use Rattle.leaves_score.specs.Column.{other}
 use Rattle.leaves_score.specs.Scan.{scanned, sidesOf}
 use Rattle.side_scan.specs.Step.{SideSized}
-use Rattle.leaves_score.specs.SideLists.{scanSheet, goLeft}
+use Rattle.leaves_score.specs.Lists.{scanSheet, goLeft}
 use Rattle.leaves_score.proofs.Columns.{Both, both-scanned, both-alike, side-alike, sized}
 use borrow.Author.Needs.{needs}
 use Rattle.leaves_score.proofs.get_leaves_score.Statement.{statement}

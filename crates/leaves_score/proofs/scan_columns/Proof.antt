@@ -10,13 +10,14 @@ use lib.Ieee.{Float}
 use Rattle.sheet.specs.Sheet.{Sheet, labelOf, leastRows}
 use Rattle.side_scan.specs.declared.SideScan.{SideScan}
 use Rattle.sheet.specs.declared.Size.{Size}
+use Rattle.sheet.specs.Rows.{rowsAt}
 use Rattle.leaves_score.specs.declared.two_sides.Parted.{Parted}
-use Rattle.leaves_score.specs.Column.{other, sizeOf, labelled, ownOf, sideAtStart}
+use Rattle.leaves_score.specs.Column.{other, labelled, ownOf, sideAtStart}
 use Rattle.leaves_score.specs.Scan.{startBoth, scanned}
 use Rattle.leaves_score.specs.Kept.{BothAlike}
 use Rattle.side_scan.specs.Step.{leafScan}
-use Rattle.leaves_score.specs.SideLists.{scanSheet, goLeft, SidesNumbered, rowsOnly, partedOf, ReadyColumn, ReadyRows}
-use Rattle.leaves_score.specs.Lists.{Scannable}
+use Rattle.leaves_score.specs.SideLists.{SidesNumbered, rowsOnly, partedOf, ReadyColumn, ReadyRows}
+use Rattle.leaves_score.specs.Lists.{Scannable, scanSheet, goLeft}
 use Rattle.leaves_score.proofs.Marks.{starts-alike, scanned-alike}
 use Rattle.leaves_score.proofs.Columns.{Scanning, begins, finished, stops, goes-on, ready-column, same-side}
 use Rattle.leaves_score.proofs.scan_columns.Statement.{statement}
@@ -25,9 +26,9 @@ use Rattle.leaves_score.proofs.scan_columns.Tie as tie
 -- ---- the two sides at the start
 
 one : (size : Size) (values : List Float) (codes order : List ℕ) (support : ℕ) (mine : ℕ → Bool)
-    → leafScan (ownOf (rowsOnly (size .rows) codes) mine) (sizeOf (rowsOnly (size .rows) codes) mine) (size .labels) (leastRows support)
+    → leafScan (ownOf (rowsOnly (size .rows) codes) mine) (rowsAt (rowsOnly (size .rows) codes) mine) (size .labels) (leastRows support)
     ≡ sideAtStart (scanSheet size values codes order) support mine
-unfolding sideAtStart ownOf labelled labelOf sizeOf
+unfolding sideAtStart ownOf labelled labelOf rowsAt
 one size values codes order support mine = refl
 
 begun : (size : Size) (values : List Float) (codes order marks : List ℕ) (support : ℕ) (p : Parted) (least : ℕ) (l r : SideScan)

@@ -36,7 +36,7 @@ unfolding valueRead bitsOf
 float-from-bits-values c =
     let a = c .before .before .before .before .before .before .before .args in
     let i = c .before .before .before .loop .index in
-    let e : c .bits-at .result ≡ bitsOf (a .bytes .now) (a .head) i = c .bits-at .ensures ∙ ap (numberAt 8 (a .bytes .now)) (c .before .cell-at .ensures .0) in
+    let e : c .number-at .result ≡ bitsOf (a .bytes .now) (a .head) i = c .number-at .ensures .0 ∙ ap (numberAt 8 (a .bytes .now)) (c .before .cell-at .ensures .0) in
     subst (λ (b : ℕ). T (not (nanBits binary64 b))) (sym e) (within-number (bitsOf (a .bytes .now) (a .head) i) (c .before .before .before .before .before .before .before .pre .2 i (omega arith)))
 
 mul-values : tie.Need-mul-values Inv-loop μ-loop
@@ -50,7 +50,7 @@ unfolding valuesOf valueRead bitsOf
 loop-again c =
     let a = c .before .before .before .before .before .before .before .args in
     let i = c .before .before .before .loop .index in
-    let e : c .bits-at .result ≡ bitsOf (a .bytes .now) (a .head) i = c .bits-at .ensures ∙ ap (numberAt 8 (a .bytes .now)) (c .before .cell-at .ensures .0) in
+    let e : c .number-at .result ≡ bitsOf (a .bytes .now) (a .head) i = c .number-at .ensures .0 ∙ ap (numberAt 8 (a .bytes .now)) (c .before .cell-at .ensures .0) in
     let l = c .before .before .before .loop in
     let f : ℕ → Float = valueRead (a .bytes .now) (a .head) in (
       omega arith,

@@ -3,7 +3,7 @@ use mathlib.Core.Path.{sym, _∙_}
 use Prim.Native.Nat.{_-_, _≤_}
 use native.Mathlib.Omega.{arith}
 use borrow.Author.Needs.{needs}
-use Rattle.sheet_bytes.specs.Read.{badRow}
+use Rattle.sheet_bytes.specs.Reading.{badRow}
 use Rattle.sheet_bytes.proofs.Find.{Passed, passed-none, passed-more, stops, ends}
 use Rattle.sheet_bytes.proofs.first_bad_row.Statement.{statement}
 use Rattle.sheet_bytes.proofs.first_bad_row.Tie as tie

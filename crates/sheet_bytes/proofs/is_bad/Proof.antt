@@ -2,7 +2,7 @@
 use mathlib.Core.Path.{sym, ap, _∙_}
 use mathlib.Core.Bool.{Bool}
 use borrow.Author.Needs.{needs}
-use Rattle.sheet_bytes.specs.Read.{badRow}
+use Rattle.sheet_bytes.specs.Reading.{badRow}
 use Rattle.sheet_bytes.proofs.is_bad.Statement.{statement}
 use Rattle.sheet_bytes.proofs.is_bad.Tie as tie
 

@@ -14,7 +14,7 @@ returns : tie.Need-returns
 unfolding valueBad valueRead bitsOf
 returns c =
     let a = c .before .before .before .before .args in
-    ap not (c .bits-within .ensures ∙ ap (λ (b : ℕ). within (ofBits binary64 b)) (c .before .bits-at .ensures ∙ ap (numberAt 8 (a .bytes .now)) (c .before .before .cell-at .ensures .0)))
+    ap not (c .bits-within .ensures ∙ ap (λ (b : ℕ). within (ofBits binary64 b)) (c .before .number-at .ensures .0 ∙ ap (numberAt 8 (a .bytes .now)) (c .before .before .cell-at .ensures .0)))
 
 pub value-bad-spec : {M : Type 1} → statement M
 value-bad-spec =

@@ -11,7 +11,7 @@ use lib.Ieee.{Float}
 use Rattle.basics.specs.Choice.{pick}
 use Rattle.side_scan.specs.declared.SideScan.{SideScan}
 use Rattle.side_scan.specs.OneSide.{rowsLeft, countRow, raised, stepOf}
-use Rattle.side_scan.specs.Scored.{Scorable}
+use Rattle.side_scan.specs.Passing.{Scorable}
 use Rattle.side_scan.specs.Step.{Ready}
 use Rattle.side_scan.proofs.Scored.{first-in, second-in}
 use Rattle.side_scan.proofs.Steps.{counting, scorable, stays-closed, only, cuts}

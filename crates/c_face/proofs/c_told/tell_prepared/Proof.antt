@@ -9,7 +9,7 @@ use Rattle.c_face.proofs.c_told.tell_prepared.Tie as tie
 returns : tie.Need-returns
 returns c =
     let a = c .before .before .before .before .before .before .args in
-    c .before .before .tell-checked .ensures ∙ ap (λ (t : Checked). checkedTold t (a .answer .now)) (c .before .before .before .checked-of .ensures)
+    c .before .before .tell-checked .ensures ∙ ap (λ (t : Checked). checkedTold t (a .answer .now)) (c .before .before .before .as-checked .ensures)
 
 pub tell-prepared-spec : {M : Type 1} → statement M
 tell-prepared-spec = tie.close (tie.spec (λ c κs. search needs) (λ c κs. search needs) (λ c. search needs) returns)

@@ -7,9 +7,9 @@ use borrow.Author.Needs.{needs}
 use Rattle.tree.specs.Answer.{sideError}
 use Rattle.leaves_score.specs.declared.Sides.{Sides}
 use Rattle.leaves_score.specs.Root.{errorsAt}
-use Rattle.column_turns.specs.Lent.{tableOf, ringOf, marksOf}
+use Rattle.column_turns.specs.Lent.{marksOf}
 use Rattle.column_turns.specs.Try.{triedTree, treeAt}
-use Rattle.column_turns.proofs.Lent.{became-enough, marks-length}
+use Rattle.column_turns.proofs.Lent.{kept-enough, marks-length}
 use Rattle.column_turns.proofs.Try.{tried-cutting, tried-marking, tried-scannable, tried-sides, tried-few}
 use Rattle.column_turns.proofs.cut_try.try_cut.Statement.{statement}
 use Rattle.column_turns.proofs.cut_try.try_cut.Tie as tie
@@ -32,7 +32,7 @@ scan-sides-requires c κs =
     let a = start .args in
     let marked = c .before .before .before .mark-cut in
     let words : List ℕ = marked .last .1 .1 .1 .1 .1 .0 in
-    let enough = became-enough (a .size .rows) (a .scratch .now) words (tableOf (a .size .rows) (a .scratch .now)) (ringOf (a .size .rows) (a .scratch .now)) (start .pre .enough) (marked .ensures .0) in
+    let enough = kept-enough (a .size .rows) (a .scratch .now) words (start .pre .enough) (marked .ensures .0 .kept) in
     (enough, tried-scannable (a .size) (a .values .now) (a .codes .now) (a .order .now) (a .cuts .now) (a .column) (a .cut) (a .scratch .now) (start .pre) (marksOf (a .size .rows) words) (marks-length (a .size .rows) words enough))
 
 side-error-requires : tie.Need-side-error-requires

@@ -5,16 +5,16 @@ use Prim.Native.Nat.{ℕ, _+_}
 use mathlib.Core.Bool.{Bool, true, false, _&&_}
 use lib.Dec.{leb}
 use Rattle.interval_pruner.specs.declared.Bound.{Bound}
-use Rattle.interval_pruner.specs.Column.{Column}
-use Rattle.interval_pruner.specs.Pruner.{heldLeft, heldRight, hopeless}
+use Rattle.interval_pruner.specs.Column.{Column, leftError, rightError}
+use Rattle.interval_pruner.specs.Pruner.{heldError, hopeless}
 use Rattle.interval_pruner.proofs.subinterval_pruning.subinterval_pruning.Statement.{statement}
 use Rattle.interval_pruner.proofs.subinterval_pruning.subinterval_pruning.Tie as tie
 
 module _ (c : Column) (b : ℕ) (i : Bound) where
   abbrev held : ℕ
-  held = heldLeft c (i .left) + heldRight c (i .right) + c .gap
+  held = heldError (leftError c) (i .left) + heldError (rightError c) (i .right) + c .gap
 
-  tested : {l r g w : ℕ} → c .small ≡ true → l ≡ heldLeft c (i .left) → r ≡ heldRight c (i .right) → g ≡ c .gap → w ≡ b
+  tested : {l r g w : ℕ} → c .small ≡ true → l ≡ heldError (leftError c) (i .left) → r ≡ heldError (rightError c) (i .right) → g ≡ c .gap → w ≡ b
       → leb w (l + r + g) ≡ hopeless c b i
   unfolding hopeless
   tested e el er eg ew = (λ k. leb (ew k) (el k + er k + eg k)) ∙ sym (ap (λ (s : Bool). s && leb b held) e)
@@ -24,10 +24,11 @@ module _ (c : Column) (b : ℕ) (i : Bound) where
   untested e = sym (ap (λ (s : Bool). s && leb b held) e)
 
 returns : tie.Need-returns
+unfolding leftError rightError
 returns c =
     λ places.
     let p = c .before .before .before in
-    tested _ _ _ (p .before .if1 .taken) (p .held-left .ensures .0 places _ _) (c .before .before .held-right .ensures .0 places _ _)
+    tested _ _ _ (p .before .if1 .taken) (p .held .ensures .0) (c .before .before .held2 .ensures .0)
     (c .before .wide-word .ensures .0) (c .wide-word2 .ensures .0)
 
 returns-2 : tie.Need-returns-2

@@ -9,8 +9,9 @@ use native.Mathlib.Omega.{arith}
 use borrow.Author.Needs.{needs}
 use Rattle.sheet.specs.Sheet.{Sheet}
 use Rattle.sheet.specs.Check.{sheetOf}
+use Rattle.sheet.specs.Rows.{sentLeft, leftward, rightward}
 use Rattle.sheet.proofs.Search.{truth, untruth}
-use Rattle.judge.specs.Mistakes.{sentLeft, leftward, rightward, all, rootLeftward, rootRightward}
+use Rattle.judge.specs.Mistakes.{all, rootLeftward, rootRightward}
 use Rattle.judge.specs.Passing.{SeenWithin, seenOf, nextOf}
 use Rattle.judge.proofs.Passing.{seen-none, seen-comes, seen-stays, seen-within, passed}
 use Rattle.judge.proofs.judge_rows.pass.Statement.{statement}

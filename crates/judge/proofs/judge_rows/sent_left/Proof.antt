@@ -3,6 +3,7 @@ use Prim.Native.Nat.{_+_, _*_, _<_}
 use borrow.Author.Needs.{needs}
 use lib.ListN.{length}
 use Rattle.sheet.specs.Sheet.{valueOf}
+use Rattle.sheet.specs.Rows.{sentLeft}
 use Rattle.judge.proofs.Passing.{cell}
 use Rattle.judge.proofs.judge_rows.sent_left.Statement.{statement}
 use Rattle.judge.proofs.judge_rows.sent_left.Tie as tie
@@ -25,7 +26,7 @@ shared-slice-read-value : tie.Need-shared-slice-read-value
 shared-slice-read-value c = in-cells (c .before .before .before .before)
 
 returns : tie.Need-returns
-unfolding valueOf
+unfolding sentLeft valueOf
 returns c codes = c .goes-left .ensures
 
 pub sent-left-spec : {M : Type 1} → statement M

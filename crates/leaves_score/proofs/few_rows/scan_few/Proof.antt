@@ -1,5 +1,5 @@
 -- `leaves_score::few_rows::scan_few` meets its contract: the two sides, each walked by itself, are alike to the scan of both (`Walk.antt`). Assumes nothing.
-use Rattle.leaves_score.specs.SideLists.{scanSheet}
+use Rattle.leaves_score.specs.Lists.{scanSheet}
 use Rattle.leaves_score.proofs.Walk.{ready-left, ready-right, sides-walked}
 use Rattle.leaves_score.proofs.few_rows.scan_few.Statement.{statement}
 use Rattle.leaves_score.proofs.few_rows.scan_few.Tie as tie

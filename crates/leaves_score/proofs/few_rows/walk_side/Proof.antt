@@ -11,7 +11,8 @@ use Rattle.sheet.specs.Sheet.{Sheet, valueOf, labelOf, rowAt}
 use Rattle.side_scan.specs.declared.SideScan.{SideScan}
 use Rattle.side_scan.specs.OneSide.{stepOf}
 use Rattle.side_scan.specs.Step.{Steppable}
-use Rattle.leaves_score.specs.SideLists.{scanSheet, mine}
+use Rattle.leaves_score.specs.SideLists.{mine}
+use Rattle.leaves_score.specs.Lists.{scanSheet}
 use Rattle.leaves_score.proofs.Places.{below, place-in, twice-in, eight-in, within-list}
 use Rattle.leaves_score.proofs.Walk.{Walking, begins, finished, passes, takes, steppable}
 use Rattle.leaves_score.proofs.few_rows.walk_side.Statement.{statement}

@@ -1,7 +1,7 @@
 -- `leaves_score::many_rows::is_passed` meets its contract: each way out rewrites the test as it found it. Assumes nothing.
 use borrow.Author.Needs.{needs}
 use borrow.Author.Tests.{lt-ltb, le-ltb}
-use Rattle.side_scan.specs.Scored.{passed}
+use Rattle.side_scan.specs.Passing.{passed}
 use Rattle.leaves_score.proofs.many_rows.is_passed.Statement.{statement}
 use Rattle.leaves_score.proofs.many_rows.is_passed.Tie as tie
 

@@ -3,8 +3,9 @@ use mathlib.Core.Path.{_≡_, sym, ap₂, subst}
 use mathlib.Core.List.{List, [], _∷_}
 use borrow.Author.Needs.{needs}
 use Rattle.side_scan.specs.declared.cut_score.Share.{Share}
-use Rattle.side_scan.specs.Step.{shareOf}
-use Rattle.leaves_score.specs.SideLists.{scanSheet, bothAt, ReadyColumn, Found}
+use Rattle.side_scan.specs.Passing.{shareOf}
+use Rattle.leaves_score.specs.SideLists.{bothAt, ReadyColumn, Found}
+use Rattle.leaves_score.specs.Lists.{scanSheet}
 use Rattle.leaves_score.proofs.Leveled.{ready-level, column-found}
 use Rattle.leaves_score.proofs.many_rows.scan_many.Statement.{statement}
 use Rattle.leaves_score.proofs.many_rows.scan_many.Tie as tie

@@ -18,9 +18,11 @@ use Rattle.side_scan.specs.declared.cut_score.Cut.{Cut}
 use Rattle.side_scan.specs.Counts.{noRows, peaksOf}
 use Rattle.side_scan.specs.OneSide.{raised}
 use Rattle.side_scan.specs.declared.cut_score.Share.{Share}
-use Rattle.side_scan.specs.declared.cut_score.Stand.{Stand}
-use Rattle.side_scan.specs.Scored.{notBegun, standAfter, splitBy, passed, cutScored, Scorable}
-use Rattle.leaves_score.specs.SideLists.{scanSheet, noShare, noBest, skipsAll}
+use Rattle.side_scan.specs.declared.cut_score.Counting.{Counting}
+use Rattle.side_scan.specs.Scored.{splitBy}
+use Rattle.side_scan.specs.Passing.{notBegun, countingAfter, passed, cutScored, Scorable}
+use Rattle.leaves_score.specs.SideLists.{noShare, noBest, skipsAll}
+use Rattle.leaves_score.specs.Lists.{scanSheet}
 use Rattle.leaves_score.proofs.Places.{below, place-in, twice-in, within-list}
 use Rattle.leaves_score.proofs.Rows.{by-two}
 use Rattle.side_scan.proofs.Scored.{first-in, second-in}
@@ -38,11 +40,11 @@ unfolding pick
 left-it b split best e = sym (ap (λ (b : Bool). pick b split best) e)
 
 abbrev Inv-loop : tie.InvT-loop
-Inv-loop own size column values codes order sides share best₀ seen₀ stand₀ base i₀ best seen stand i =
-    Abreast (scanSheet size values codes order) sides column own share best₀ i best seen stand
+Inv-loop own size column values codes order sides share best₀ seen₀ counting₀ base i₀ best seen counting i =
+    Abreast (scanSheet size values codes order) sides column own share best₀ i best seen counting
 
 abbrev μ-loop : tie.MeasureT-loop
-μ-loop own size column values codes order sides share best₀ seen₀ stand₀ base i₀ best seen stand i = size .rows - i
+μ-loop own size column values codes order sides share best₀ seen₀ counting₀ base i₀ best seen counting i = size .rows - i
 
 mul-base : tie.Need-mul-base Inv-loop μ-loop
 mul-base c =
@@ -54,7 +56,7 @@ loop-holds c =
     let p = c .before .before .before .before .before in
     let a = p .args in
     let s = scanSheet (a .size) (a .values .now) (a .codes .now) (a .order .now) in
-    subst (λ (z : Stand). Abreast s (a .sides .now) (a .column) (a .own .now) (a .t2) (a .t3) 0 (a .t3) (noRows ∷ noRows ∷ []) (z ∷ z ∷ [])) (sym (c .before .not-begun .ensures))
+    subst (λ (z : Counting). Abreast s (a .sides .now) (a .column) (a .own .now) (a .t2) (a .t3) 0 (a .t3) (noRows ∷ noRows ∷ []) (z ∷ z ∷ [])) (sym (c .before .not-begun .ensures))
     (opens s (a .sides .now) (a .column) (a .own .now) (a .t2) (a .t3) (p .pre) (p .good .1 .1 .0 .1 .0 .1))
 
 -- the function's start, from the loop's head
@@ -137,8 +139,8 @@ module _ (c : tie.After-wide-byte2 Inv-loop μ-loop) where
   abbrev counts : List ℕ
   counts = getD (head at .loop .seen) side []
 
-  abbrev stand-at : Stand
-  stand-at = getD (head at .loop .stand) side notBegun
+  abbrev counting-at : Counting
+  counting-at = getD (head at .loop .counting) side notBegun
 
   abbrev best-at : Best
   best-at = getD (head at .loop .best) side noBest
@@ -149,11 +151,11 @@ module _ (c : tie.After-wide-byte2 Inv-loop μ-loop) where
   stands : Stands (sheet at) (start at .args .column) (began (sheet at) (start at .args .sides .now) (start at .args .column) (start at .args .own .now) (start at .args .t2) (start at .args .t3) side)
       (target (sheet at) (start at .args .sides .now) (start at .args .column) (start at .args .own .now) (start at .args .t2) (start at .args .t3) side)
       (row at ∷ to-come (sheet at) (start at .args .sides .now) (start at .args .column) (start at .args .own .now) (start at .args .t2) (start at .args .t3) side (head at .loop .i + 1))
-      counts (stand-at .counted) (stand-at .until) (stand-at .last) best-at
+      counts (counting-at .counted) (counting-at .until) (counting-at .last) best-at
   stands =
       let a = start at .args in
       let h = head at .loop in
-      here (sheet at) (a .sides .now) (a .column) (a .own .now) (a .t2) (a .t3) (h .i) (h .best) (h .seen) (h .stand) (h .inv) (test at) side side-in side-is
+      here (sheet at) (a .sides .now) (a .column) (a .own .now) (a .t2) (a .t3) (h .i) (h .best) (h .seen) (h .counting) (h .inv) (test at) side side-in side-is
 
   small : share-at .size ≤ mostRows
   small = by-two (λ k. getD (start at .args .t2) k noShare .size ≤ mostRows) side side-in (start at .pre .left-small) (start at .pre .right-small)
@@ -171,7 +173,7 @@ module _ (c : tie.After-wide-byte2 Inv-loop μ-loop) where
   label-in : label-at < 32
   label-in = omega (arith, label-below, stands .counts .most)
 
-  room : stand-at .counted < mostRows
+  room : counting-at .counted < mostRows
   room = omega (arith, stands .counts .rows, small)
 
   in-values : (r : ℕ) → r < start at .args .size .rows → base at + r < length (start at .args .values .now)
@@ -186,23 +188,23 @@ array-copy-out-was c = side-in c
 is-passed-requires : tie.Need-is-passed-requires Inv-loop μ-loop
 is-passed-requires c κs =
     let m = c .before in
-    (in-values m (stand-at m .last) (stands m .among), in-values m (at m .wide-entry .result) (row-in (at m)), room m)
+    (in-values m (counting-at m .last) (stands m .among), in-values m (at m .wide-entry .result) (row-in (at m)), room m)
 
 -- whether the row is only counted
 module _ (c : tie.After-is-passed Inv-loop μ-loop) where
   abbrev met : tie.After-wide-byte2 Inv-loop μ-loop
   met = c .before .before
 
-  passed-is : c .is-passed .result ≡ passed (start (at met) .args .values .now) (base (at met)) (row (at met)) (stand-at met .last) (stand-at met .counted) (stand-at met .until)
-  passed-is = c .is-passed .ensures ∙ ap (λ (r : ℕ). passed (start (at met) .args .values .now) (base (at met)) r (stand-at met .last) (stand-at met .counted) (stand-at met .until)) (row-is (at met))
+  passed-is : c .is-passed .result ≡ passed (start (at met) .args .values .now) (base (at met)) (row (at met)) (counting-at met .last) (counting-at met .counted) (counting-at met .until)
+  passed-is = c .is-passed .ensures ∙ ap (λ (r : ℕ). passed (start (at met) .args .values .now) (base (at met)) r (counting-at met .last) (counting-at met .counted) (counting-at met .until)) (row-is (at met))
 
-  to-score : Scorable (getD (start (at met) .args .own .now) (side met) []) (counts met) (share-at met .labels) (stand-at met .counted) (share-at met .size)
+  to-score : Scorable (getD (start (at met) .args .own .now) (side met) []) (counts met) (share-at met .labels) (counting-at met .counted) (share-at met .size)
   to-score =
       let a = start (at met) .args in
       scorable (sheet (at met)) (a .column) (began (sheet (at met)) (a .sides .now) (a .column) (a .own .now) (a .t2) (a .t3) (side met))
       (target (sheet (at met)) (a .sides .now) (a .column) (a .own .now) (a .t2) (a .t3) (side met)) (row (at met))
       (to-come (sheet (at met)) (a .sides .now) (a .column) (a .own .now) (a .t2) (a .t3) (side met) (head (at met) .loop .i + 1))
-      (counts met) (stand-at met .counted) (stand-at met .until) (stand-at met .last) (best-at met) (stands met) (small met)
+      (counts met) (counting-at met .counted) (counting-at met .until) (counting-at met .last) (best-at met) (stands met) (small met)
 
 mul-score-cut : tie.Need-mul-score-cut Inv-loop μ-loop
 mul-score-cut c = record { fits = omega (arith, side-in (met (c .before))) }
@@ -242,7 +244,7 @@ module _ (c : tie.After-score-cut Inv-loop μ-loop) where
   abbrev cut : Cut
   cut = c .score-cut .result
 
-  cut-is : cut ≡ cutScored (getD (start (at this) .args .own .now) (side this) []) (counts this) (share-at this .labels) (stand-at this .counted) (share-at this .size) (share-at this .least) (best-at this .score)
+  cut-is : cut ≡ cutScored (getD (start (at this) .args .own .now) (side this) []) (counts this) (share-at this .labels) (counting-at this .counted) (share-at this .size) (share-at this .least) (best-at this .score)
   cut-is = c .score-cut .ensures
 
   peaks-are : cut .peaks ≡ peaksOf (getD (start (at this) .args .own .now) (side this) []) (counts this) (share-at this .labels)
@@ -261,11 +263,11 @@ split-at-requires c κs =
     let m = this k in
     let own = getD (start (at m) .args .own .now) (side m) [] in
     let h = to-score (tested k) in (
-      first-in own (counts m) (share-at m .labels) (stand-at m .counted) (share-at m .size) h (cut k .peaks) (peaks-are k),
+      first-in own (counts m) (share-at m .labels) (counting-at m .counted) (share-at m .size) h (cut k .peaks) (peaks-are k),
       omega (arith, h .more),
-      second-in own (counts m) (share-at m .labels) (stand-at m .counted) (share-at m .size) h (cut k .peaks) (peaks-are k),
+      second-in own (counts m) (share-at m .labels) (counting-at m .counted) (share-at m .size) h (cut k .peaks) (peaks-are k),
       small m,
-      in-values m (stand-at m .last) (stands m .among),
+      in-values m (counting-at m .last) (stands m .among),
       in-values m (at m .wide-entry .result) (row-in (at m)),
     )
 
@@ -275,11 +277,11 @@ mul-best c = record { fits = omega (arith, side-in (this (c .before .before .bef
 array-set-from-best : tie.Need-array-set-from-best Inv-loop μ-loop
 array-set-from-best c = side-in (this (c .before .before .before))
 
-mul-stand : tie.Need-mul-stand Inv-loop μ-loop
-mul-stand c = record { fits = omega (arith, side-in (this (c .before))) }
+mul-counting : tie.Need-mul-counting Inv-loop μ-loop
+mul-counting c = record { fits = omega (arith, side-in (this (c .before))) }
 
-way-write-given-stand : tie.Need-way-write-given-stand Inv-loop μ-loop
-way-write-given-stand c = (side-in (this (c .before)), tt)
+way-write-given-counting : tie.Need-way-write-given-counting Inv-loop μ-loop
+way-write-given-counting c = (side-in (this (c .before)), tt)
 
 -- after a scored cut
 module _ (c : tie.Joined3 Inv-loop μ-loop) where
@@ -293,26 +295,26 @@ module _ (c : tie.Joined3 Inv-loop μ-loop) where
   head-at = head (at one)
 
   -- where the sides stand before the row is counted
-  abbrev standing : List Stand
-  standing = set (head-at .loop .stand) (side one) (record { counted = stand-at one .counted; until = cut scored-at .until; last = stand-at one .last })
+  abbrev standing : List Counting
+  standing = set (head-at .loop .counting) (side one) (record { counted = counting-at one .counted; until = cut scored-at .until; last = counting-at one .last })
 
   -- the sides after the row, with these bests
   abbrev After : List Best → Type 0
   After bests =
       Abreast (sheet (at one)) (start (at one) .args .sides .now) (start (at one) .args .column) (start (at one) .args .own .now) (start (at one) .args .t2) (start (at one) .args .t3)
       (head-at .loop .i + 1) bests (set (head-at .loop .seen) (side one) (raised (counts one) (labelOf (sheet (at one)) (row (at one)))))
-      (set standing (side one) (standAfter (getD standing (side one) notBegun) (row (at one))))
+      (set standing (side one) (countingAfter (getD standing (side one) notBegun) (row (at one))))
 
   abbrev split-is : Best
   split-is =
-      splitBy (cut scored-at .peaks) (stand-at one .counted) (share-at one .size - stand-at one .counted) (start (at one) .args .column)
-      (valueOf (sheet (at one)) (start (at one) .args .column) (stand-at one .last)) (valueOf (sheet (at one)) (start (at one) .args .column) (row (at one)))
+      splitBy (cut scored-at .peaks) (counting-at one .counted) (share-at one .size - counting-at one .counted) (start (at one) .args .column)
+      (valueOf (sheet (at one)) (start (at one) .args .column) (counting-at one .last)) (valueOf (sheet (at one)) (start (at one) .args .column) (row (at one)))
 
   on : tested scored-at .is-passed .result ≡ false → (found : Best) (bests : List Best) → found ≡ pick (cut scored-at .taken) split-is (best-at one) → Changed (head-at .loop .best) bests (side one) found noBest → After bests
   on e found bests ef cb =
       let a = start (at one) .args in
       let h = head-at .loop in
-      scores-on (sheet (at one)) (a .sides .now) (a .column) (a .own .now) (a .t2) (a .t3) (h .i) (h .best) (h .seen) (h .stand) (h .inv) (test (at one))
+      scores-on (sheet (at one)) (a .sides .now) (a .column) (a .own .now) (a .t2) (a .t3) (h .i) (h .best) (h .seen) (h .counting) (h .inv) (test (at one))
       (side one) (side-in one) (side-is one) (row-below (at one)) (sym (passed-is (tested scored-at)) ∙ e) (some-least one) (cut scored-at) found bests (cut-is scored-at) ef cb
 
   scored : After (c .if3 .best)
@@ -323,7 +325,7 @@ module _ (c : tie.Joined3 Inv-loop μ-loop) where
       ⊎-elim
       (λ w. subst After (sym (w .3)) (on e (w .2 .result) (set (head-at .loop .best) (side one) (w .2 .result))
       (took (cut scored-at .taken) (w .2 .result) split-is (best-at one) (w .0 .taken)
-      (w .2 .ensures ∙ ap (λ (r : ℕ). splitBy (cut scored-at .peaks) (stand-at one .counted) (share-at one .size - stand-at one .counted) (a .column) (valueOf (sheet (at one)) (a .column) (stand-at one .last)) (valueOf (sheet (at one)) (a .column) r)) (row-is (at one))))
+      (w .2 .ensures ∙ ap (λ (r : ℕ). splitBy (cut scored-at .peaks) (counting-at one .counted) (share-at one .size - counting-at one .counted) (a .column) (valueOf (sheet (at one)) (a .column) (counting-at one .last)) (valueOf (sheet (at one)) (a .column) r)) (row-is (at one))))
       (set-at (head-at .loop .best) (side one) (w .2 .result) noBest (head-at .loop .inv .two-bests) (side-in one))))
       (λ w. subst After (sym (w .1)) (on e (best-at one) (head-at .loop .best) (left-it (cut scored-at .taken) split-is (best-at one) (w .0 .left))
       (unset (head-at .loop .best) (side one) noBest (head-at .loop .inv .two-bests))))
@@ -335,20 +337,20 @@ module _ (c : tie.Joined2 Inv-loop μ-loop) where
   that = met (c .before)
 
   -- the sides after the row, as the code has it
-  abbrev Next : List Best → List Stand → ℕ → ℕ → Type 0
-  Next bests stand label r =
+  abbrev Next : List Best → List Counting → ℕ → ℕ → Type 0
+  Next bests counting label r =
       Abreast (sheet (at that)) (start (at that) .args .sides .now) (start (at that) .args .column) (start (at that) .args .own .now) (start (at that) .args .t2) (start (at that) .args .t3)
       (head (at that) .loop .i + 1) bests (set (head (at that) .loop .seen) (side that) (raised (counts that) label))
-      (set stand (side that) (standAfter (getD stand (side that) notBegun) r))
+      (set counting (side that) (countingAfter (getD counting (side that) notBegun) r))
 
-  counted-on : c .before .is-passed .result ≡ true → Next (head (at that) .loop .best) (head (at that) .loop .stand) (labelOf (sheet (at that)) (row (at that))) (row (at that))
+  counted-on : c .before .is-passed .result ≡ true → Next (head (at that) .loop .best) (head (at that) .loop .counting) (labelOf (sheet (at that)) (row (at that))) (row (at that))
   counted-on e =
       let a = start (at that) .args in
       let h = head (at that) .loop in
-      passes-on (sheet (at that)) (a .sides .now) (a .column) (a .own .now) (a .t2) (a .t3) (h .i) (h .best) (h .seen) (h .stand) (h .inv) (test (at that))
+      passes-on (sheet (at that)) (a .sides .now) (a .column) (a .own .now) (a .t2) (a .t3) (h .i) (h .best) (h .seen) (h .counting) (h .inv) (test (at that))
       (side that) (side-in that) (side-is that) (row-below (at that)) (sym (passed-is (c .before)) ∙ e)
 
-  joined : Next (c .if2 .best) (c .if2 .stand) (labelOf (sheet (at that)) (row (at that))) (row (at that))
+  joined : Next (c .if2 .best) (c .if2 .counting) (labelOf (sheet (at that)) (row (at that))) (row (at that))
   joined =
       ⊎-elim
       (λ w.
@@ -359,28 +361,28 @@ module _ (c : tie.Joined2 Inv-loop μ-loop) where
         };
         if3 = w .5;
       } in
-      subst (λ (zs : List Stand). Next (c .if2 .best) zs (labelOf (sheet (at that)) (row (at that))) (row (at that))) (sym (w .10))
+      subst (λ (zs : List Counting). Next (c .if2 .best) zs (labelOf (sheet (at that)) (row (at that))) (row (at that))) (sym (w .10))
       (subst (λ (bs : List Best). Next bs (standing d) (labelOf (sheet (at that)) (row (at that))) (row (at that))) (sym (w .9)) (scored d)))
       (λ w.
-      subst (λ (zs : List Stand). Next (c .if2 .best) zs (labelOf (sheet (at that)) (row (at that))) (row (at that))) (sym (w .2))
-      (subst (λ (bs : List Best). Next bs (head (at that) .loop .stand) (labelOf (sheet (at that)) (row (at that))) (row (at that))) (sym (w .1)) (counted-on (not-false _ (w .0 .left)))))
+      subst (λ (zs : List Counting). Next (c .if2 .best) zs (labelOf (sheet (at that)) (row (at that))) (row (at that))) (sym (w .2))
+      (subst (λ (bs : List Best). Next bs (head (at that) .loop .counting) (labelOf (sheet (at that)) (row (at that))) (row (at that))) (sym (w .1)) (counted-on (not-false _ (w .0 .left)))))
       (c .if2 .came)
 
-  next : Next (c .if2 .best) (c .if2 .stand) (label-at that) (at that .wide-entry .result)
+  next : Next (c .if2 .best) (c .if2 .counting) (label-at that) (at that .wide-entry .result)
   next =
-      subst (λ (l : ℕ). Next (c .if2 .best) (c .if2 .stand) l (at that .wide-entry .result)) (sym (label-is that))
-      (subst (λ (r : ℕ). Next (c .if2 .best) (c .if2 .stand) (labelOf (sheet (at that)) (row (at that))) r) (sym (row-is (at that))) joined)
+      subst (λ (l : ℕ). Next (c .if2 .best) (c .if2 .counting) l (at that .wide-entry .result)) (sym (label-is that))
+      (subst (λ (r : ℕ). Next (c .if2 .best) (c .if2 .counting) (labelOf (sheet (at that)) (row (at that))) r) (sym (row-is (at that))) joined)
 
   -- the row's side counts it as one more of its rows
-  fewer : getD (c .if2 .stand) (side that) notBegun .counted < mostRows
+  fewer : getD (c .if2 .counting) (side that) notBegun .counted < mostRows
   fewer =
       ⊎-elim
       (λ w.
-      subst (λ (zs : List Stand). getD zs (side that) notBegun .counted < mostRows) (sym (w .10))
-      (subst (λ (z : Stand). z .counted < mostRows)
-      (sym (set-at (head (at that) .loop .stand) (side that) (record { counted = stand-at that .counted; until = w .4 .result .until; last = stand-at that .last }) notBegun (head (at that) .loop .inv .two-stand) (side-in that) .at))
+      subst (λ (zs : List Counting). getD zs (side that) notBegun .counted < mostRows) (sym (w .10))
+      (subst (λ (z : Counting). z .counted < mostRows)
+      (sym (set-at (head (at that) .loop .counting) (side that) (record { counted = counting-at that .counted; until = w .4 .result .until; last = counting-at that .last }) notBegun (head (at that) .loop .inv .two-counting) (side-in that) .at))
       (room that)))
-      (λ w. subst (λ (zs : List Stand). getD zs (side that) notBegun .counted < mostRows) (sym (w .2)) (room that))
+      (λ w. subst (λ (zs : List Counting). getD zs (side that) notBegun .counted < mostRows) (sym (w .2)) (room that))
       (c .if2 .came)
 
 mul-seen : tie.Need-mul-seen Inv-loop μ-loop
@@ -421,11 +423,11 @@ array-copy-out-count-row c = side-in (that (c .before))
 count-row-requires : tie.Need-count-row-requires Inv-loop μ-loop
 count-row-requires c κs = fewer (c .before .before)
 
-mul-stand-2 : tie.Need-mul-stand-2 Inv-loop μ-loop
-mul-stand-2 c = record { fits = omega (arith, side-in (that (c .before .before .before))) }
+mul-counting-2 : tie.Need-mul-counting-2 Inv-loop μ-loop
+mul-counting-2 c = record { fits = omega (arith, side-in (that (c .before .before .before))) }
 
-array-set-from-stand : tie.Need-array-set-from-stand Inv-loop μ-loop
-array-set-from-stand c = side-in (that (c .before .before .before))
+array-set-from-counting : tie.Need-array-set-from-counting Inv-loop μ-loop
+array-set-from-counting c = side-in (that (c .before .before .before))
 
 add-i : tie.Need-add-i Inv-loop μ-loop
 add-i c =
@@ -442,8 +444,8 @@ loop-again c =
     let m = that j in
     let a = start (at m) .args in
     subst
-    (λ (z : Stand). Abreast (sheet (at m)) (a .sides .now) (a .column) (a .own .now) (a .t2) (a .t3) (head (at m) .loop .i + 1) (j .if2 .best)
-    (set (head (at m) .loop .seen) (side m) (set (counts m) (label-at m) (getD (counts m) (label-at m) 0 + 1))) (set (j .if2 .stand) (side m) z))
+    (λ (z : Counting). Abreast (sheet (at m)) (a .sides .now) (a .column) (a .own .now) (a .t2) (a .t3) (head (at m) .loop .i + 1) (j .if2 .best)
+    (set (head (at m) .loop .seen) (side m) (set (counts m) (label-at m) (getD (counts m) (label-at m) 0 + 1))) (set (j .if2 .counting) (side m) z))
     (sym (c .count-row .ensures)) (next j)
 
 -- after the last row
@@ -454,8 +456,8 @@ returns c =
     let a = p .args in
     let s = scanSheet (a .size) (a .values .now) (a .codes .now) (a .order .now) in
     leaves s (a .sides .now) (a .column) (a .own .now) (a .t2) (a .t3) (p .pre) (h .loop .best)
-    (all-met s (a .sides .now) (a .column) (a .own .now) (a .t2) (a .t3) (h .loop .i) (h .loop .best) (h .loop .seen) (h .loop .stand) (h .loop .inv) 0 (omega arith) (c .if1 .left))
-    (all-met s (a .sides .now) (a .column) (a .own .now) (a .t2) (a .t3) (h .loop .i) (h .loop .best) (h .loop .seen) (h .loop .stand) (h .loop .inv) 1 (omega arith) (c .if1 .left))
+    (all-met s (a .sides .now) (a .column) (a .own .now) (a .t2) (a .t3) (h .loop .i) (h .loop .best) (h .loop .seen) (h .loop .counting) (h .loop .inv) 0 (omega arith) (c .if1 .left))
+    (all-met s (a .sides .now) (a .column) (a .own .now) (a .t2) (a .t3) (h .loop .i) (h .loop .best) (h .loop .seen) (h .loop .counting) (h .loop .inv) 1 (omega arith) (c .if1 .left))
 
 -- or where no cut to come can be taken
 returns-2 : tie.Need-returns-2 Inv-loop μ-loop
@@ -468,8 +470,8 @@ returns-2 c =
     let ended : T (skipsAll zs (a .t2) 1 && skipsAll zs (a .t2) 0) = subst T (sym (c .if4 .taken) ∙ c .before .is-over .ensures) tt in
     let met-best : (k : ℕ) → k < 2 → getD (a .t2) k noShare .size ≤ getD zs k notBegun .until → getD (d .if3 .best) k noBest ≡ target (sheet (at m)) (a .sides .now) (a .column) (a .own .now) (a .t2) (a .t3) k .best =
     λ k l n. over (sheet (at m)) (a .sides .now) (a .column) (a .own .now) (a .t2) (a .t3) (head-at d .loop .i + 1) (d .if3 .best)
-    (set (head-at d .loop .seen) (side m) (raised (counts m) (labelOf (sheet (at m)) (row (at m))))) (set zs (side m) (standAfter (getD zs (side m) notBegun) (row (at m)))) (scored d) k l
-    (subst (λ (n : ℕ). getD (a .t2) k noShare .size ≤ n) (sym (until-kept zs (side m) (row (at m)) k (length-set (head-at d .loop .stand) (side m) _ ∙ head-at d .loop .inv .two-stand) (side-in m))) n) in
+    (set (head-at d .loop .seen) (side m) (raised (counts m) (labelOf (sheet (at m)) (row (at m))))) (set zs (side m) (countingAfter (getD zs (side m) notBegun) (row (at m)))) (scored d) k l
+    (subst (λ (n : ℕ). getD (a .t2) k noShare .size ≤ n) (sym (until-kept zs (side m) (row (at m)) k (length-set (head-at d .loop .counting) (side m) _ ∙ head-at d .loop .inv .two-counting) (side-in m))) n) in
     leaves (sheet (at m)) (a .sides .now) (a .column) (a .own .now) (a .t2) (a .t3) (p .pre) (d .if3 .best)
     (met-best 0 (omega arith) (leb→le _ _ (and-right (skipsAll zs (a .t2) 1) (skipsAll zs (a .t2) 0) ended)))
     (met-best 1 (omega arith) (leb→le _ _ (and-left (skipsAll zs (a .t2) 1) (skipsAll zs (a .t2) 0) ended)))
@@ -481,7 +483,7 @@ scan-rows-spec =
     Inv-loop μ-loop (λ c κs. search needs) mul-base loop-holds add-wide-entry mul-wide-entry shared-slice-read-wide-entry (λ c κs. search needs)
     shared-slice-read-wide-byte (λ c κs. search needs) element-copy-out-wide-byte (λ c κs. search needs) mul-was array-copy-out-was is-passed-requires
     mul-score-cut index-1-score-cut mul-score-cut-2 index-1-score-cut-2 mul-score-cut-3 array-copy-out-score-cut mul-score-cut-4
-    element-copy-out-score-cut score-cut-requires mul-split-at array-copy-out-split-at split-at-requires mul-best array-set-from-best mul-stand
-    way-write-given-stand (λ c κs. search needs) mul-seen mul-seen-2 index-1-seen index-2-seen add-seen mul-seen-3 mul-seen-4 index-1-seen-2
-    index-2-seen-2 mul-count-row array-copy-out-count-row count-row-requires mul-stand-2 array-set-from-stand add-i loop-less loop-again returns
+    element-copy-out-score-cut score-cut-requires mul-split-at array-copy-out-split-at split-at-requires mul-best array-set-from-best mul-counting
+    way-write-given-counting (λ c κs. search needs) mul-seen mul-seen-2 index-1-seen index-2-seen add-seen mul-seen-3 mul-seen-4 index-1-seen-2
+    index-2-seen-2 mul-count-row array-copy-out-count-row count-row-requires mul-counting-2 array-set-from-counting add-i loop-less loop-again returns
     returns-2)

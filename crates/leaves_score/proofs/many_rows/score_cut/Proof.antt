@@ -13,8 +13,8 @@ judge-cut-requires c κs =
     let h = c .before .before .before .pre in
     omega (
       arith,
-      first-in (a .own .now) (a .seen .now) (a .share .labels) (a .stand .counted) (a .share .size) h (k .result) (k .ensures),
-      second-in (a .own .now) (a .seen .now) (a .share .labels) (a .stand .counted) (a .share .size) h (k .result) (k .ensures),
+      first-in (a .own .now) (a .seen .now) (a .share .labels) (a .counting .counted) (a .share .size) h (k .result) (k .ensures),
+      second-in (a .own .now) (a .seen .now) (a .share .labels) (a .counting .counted) (a .share .size) h (k .result) (k .ensures),
       h .more,
       h .small,
     )
@@ -28,7 +28,7 @@ until-after-requires c κs =
       λ e. omega (
         arith,
         h .more,
-        skips-less (k .result) (a .stand .counted) (a .share .size - a .stand .counted) (a .share .least) (a .score) 0 (c .before .judge-cut .result) (c .before .judge-cut .ensures) e,
+        skips-less (k .result) (a .counting .counted) (a .share .size - a .counting .counted) (a .share .least) (a .score) 0 (c .before .judge-cut .result) (c .before .judge-cut .ensures) e,
       ),
     )
 
@@ -36,7 +36,7 @@ returns : tie.Need-returns
 returns c =
     let k = c .before .before .before .before .before .find-peaks in
     let a = c .before .before .before .before .before .before .args in
-    cut-is (a .own .now) (a .seen .now) (a .share .labels) (a .stand .counted) (a .share .size) (a .share .least) (a .score) (k .result) (c .before .before .judge-cut .result) (c .until-after .result)
+    cut-is (a .own .now) (a .seen .now) (a .share .labels) (a .counting .counted) (a .share .size) (a .share .least) (a .score) (k .result) (c .before .before .judge-cut .result) (c .until-after .result)
     (k .ensures) (c .before .before .judge-cut .ensures) (c .until-after .ensures)
 
 pub score-cut-spec : {M : Type 1} → statement M

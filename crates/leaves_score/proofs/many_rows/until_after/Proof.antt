@@ -2,7 +2,7 @@
 use borrow.Author.Needs.{needs}
 use native.Mathlib.Omega.{arith}
 use Rattle.basics.specs.Choice.{pick}
-use Rattle.side_scan.specs.Scored.{untilAfter}
+use Rattle.side_scan.specs.Passing.{untilAfter}
 use Rattle.leaves_score.proofs.many_rows.until_after.Statement.{statement}
 use Rattle.leaves_score.proofs.many_rows.until_after.Tie as tie
 

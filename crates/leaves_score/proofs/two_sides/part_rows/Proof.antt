@@ -9,7 +9,8 @@ use Rattle.basics.proofs.Choice.{by-test}
 use Rattle.leaves_score.specs.declared.two_sides.Parted.{Parted}
 use Rattle.side_scan.specs.OneSide.{raised}
 use Rattle.leaves_score.specs.Column.{other}
-use Rattle.leaves_score.specs.SideLists.{goLeft, sideNumber, partedOf}
+use Rattle.leaves_score.specs.SideLists.{sideNumber, partedOf}
+use Rattle.leaves_score.specs.Lists.{goLeft}
 use Rattle.leaves_score.proofs.Rows.{Tallied, none-yet, own-is, size-is, Parting, met, right-few, parts-on}
 use Rattle.leaves_score.proofs.two_sides.part_rows.Statement.{statement}
 use Rattle.leaves_score.proofs.two_sides.part_rows.Tie as tie
