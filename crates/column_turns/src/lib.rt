@@ -300,11 +300,10 @@ fn turn(
 {
     let zeros = course.zeros;
     let error = course.standing.error;
-    let popped = next_interval(size.rows, course.queue, scratch);
-    let bound = popped.bound;
+    let first = next_interval(size.rows, course.queue, scratch);
     let places = places_of(size, cuts, counts, column);
-    let pruned = prune(size.rows, terms, places, zeros, bound, error, scratch);
-    let others = popped.queue;
+    let pruned = prune(size.rows, terms, places, zeros, first.bound, error, scratch);
+    let others = first.queue;
     course.queue = others;
     let Shrunk::To(left) = pruned else {
         return course;

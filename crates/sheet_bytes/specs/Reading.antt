@@ -1,4 +1,4 @@
--- For proofs only. What the reading of a sheet's rows goes by, once its header is neither empty nor too large.
+-- For proofs only. What the reading of a sheet's rows goes by, once the sheet is neither empty nor too large.
 use Prim.Native.Nat.{ℕ, _+_, _*_, _≤_, _<_}
 use mathlib.Core.Bool.{Bool, true, false}
 use mathlib.Core.List.{List}

@@ -25,7 +25,8 @@ ghost use Rattle.threshold.specs.Threshold.{within};
 ghost use Rattle.sheet.specs.Limits.{mostColumns};
 ghost use Rattle.sheet_bytes.specs.Room.{mostRead};
 ghost use Rattle.sheet_bytes.specs.Bytes.{byteAt, numberAt, marked};
-ghost use Rattle.sheet_bytes.specs.Read.{headOf, rowStart, codeOf, headCells, cellAt, valuesOf, codesOf, headBad, sizeBad, tooLarge, rowBad, further, termsBad, valueBad, codeBad, fromTerms, readOf, ReadInto};
+ghost use Rattle.sheet_bytes.specs.Read.{headOf, rowStart, codeOf, headCells, cellAt, valuesOf, codesOf, fromTerms, readOf, ReadInto};
+ghost use Rattle.sheet_bytes.specs.Read.{headBad, sizeBad, tooLarge, rowBad, further, termsBad, valueBad, codeBad};
 ghost use Rattle.sheet_bytes.specs.Reading.{lastStart, badRow, SmallHead, Valued};
 ghost use Rattle.basics.specs.Lent.{before, after};
 

@@ -8,9 +8,9 @@ ghost use mathlib.Core.List.{[]};
 ghost use lib.ListN.{length, getD};
 ghost use lib.Dec.{ltb, eqb};
 ghost use Rattle.basics.specs.Walk.{walk};
-ghost use Rattle.sheet.specs.Check.{sheetOf, badCuts, cutsOf, same};
-ghost use Rattle.sheet.specs.Sheet.{placesOf};
+ghost use Rattle.sheet.specs.Check.{sheetOf, badCuts};
 ghost use Rattle.sheet.specs.Ready.{Cutting};
+ghost use Rattle.sheet_check.specs.Steps.{cutsMatch};
 ghost use Rattle.basics.specs.Lent.{before};
 
 // Whether cut number `number` of the column whose entries start at base is listed, at that place.
@@ -35,9 +35,7 @@ fn cuts_match(
     column: usize,
 ) -> bool
     requires { ⌜ Cutting size (now values) (now order) (now cuts) (now counts) × (column < size .columns) ⌝ }
-    ensures { λ r.
-        ⌜ r ≡ same (placesOf (sheetOf size (before values) [] (before order) (before cuts) (before counts)) column)
-        (cutsOf (sheetOf size (before values) [] (before order) (before cuts) (before counts)) column) ⌝ }
+    ensures { λ r. ⌜ r ≡ cutsMatch (sheetOf size (before values) [] (before order) (before cuts) (before counts)) column ⌝ }
 {
     let base = column * size.rows;
     let count = wide_entry(counts[column]);

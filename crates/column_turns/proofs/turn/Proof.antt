@@ -13,18 +13,18 @@ use Rattle.column_turns.proofs.turn.Tie as tie
 
 places-of-requires : tie.Need-places-of-requires
 places-of-requires c κs =
-    let start = c .before .before .before .before .before .before .before .before .before .before in
+    let start = c .before .before .before .before .before .before .before .before .before in
     let a = start .args in
     placed-in (a .size) (a .values .now) (a .codes .now) (a .order .now) (a .cuts .now) (a .counts .now) (a .column) (start .pre .begun .whole) (start .pre .begun .here)
 
 -- nothing is left of the interval
 returns : tie.Need-returns
 returns c =
-    let start = c .before .before .before .before .before .before .before .before .before .before .before .before .before .before .before .before in
+    let start = c .before .before .before .before .before .before .before .before .before .before .before .before .before .before .before in
     let a = start .args in
     let s : Sheet = sheetOf (a .size) (a .values .now) (a .codes .now) (a .order .now) (a .cuts .now) (a .counts .now) in
     let xs : List ℕ = a .scratch .now in
-    let taken = c .before .before .before .before .before .before .before .next-interval in
+    let taken = c .before .before .before .before .before .before .next-interval in
     let places = c .before .before .before .before .before .places-of in
     let places-are = places .ensures (a .values .now) (a .codes .now) (a .order .now) in
     let pruned = c .before .before .before .prune in
@@ -34,11 +34,11 @@ returns c =
 
 try-interval-requires : tie.Need-try-interval-requires
 try-interval-requires c κs =
-    let start = c .before .before .before .before .before .before .before .before .before .before .before .before .before .before .before .before .before .before in
+    let start = c .before .before .before .before .before .before .before .before .before .before .before .before .before .before .before .before .before in
     let a = start .args in
     let s : Sheet = sheetOf (a .size) (a .values .now) (a .codes .now) (a .order .now) (a .cuts .now) (a .counts .now) in
     let xs : List ℕ = a .scratch .now in
-    let taken = c .before .before .before .before .before .before .before .before .before .next-interval in
+    let taken = c .before .before .before .before .before .before .before .before .next-interval in
     let places = c .before .before .before .before .before .before .before .places-of in
     let places-are = places .ensures (a .values .now) (a .codes .now) (a .order .now) in
     let pruned = c .before .before .before .before .before .prune in
@@ -47,11 +47,11 @@ try-interval-requires c κs =
 
 returns-2 : tie.Need-returns-2
 returns-2 c =
-    let start = c .before .before .before .before .before .before .before .before .before .before .before .before .before .before .before .before .before .before .before .before .before in
+    let start = c .before .before .before .before .before .before .before .before .before .before .before .before .before .before .before .before .before .before .before .before in
     let a = start .args in
     let s : Sheet = sheetOf (a .size) (a .values .now) (a .codes .now) (a .order .now) (a .cuts .now) (a .counts .now) in
     let xs : List ℕ = a .scratch .now in
-    let taken = c .before .before .before .before .before .before .before .before .before .before .before .before .next-interval in
+    let taken = c .before .before .before .before .before .before .before .before .before .before .before .next-interval in
     let places = c .before .before .before .before .before .before .before .before .before .before .places-of in
     let places-are = places .ensures (a .values .now) (a .codes .now) (a .order .now) in
     let pruned = c .before .before .before .before .before .before .before .before .prune in
