@@ -1,4 +1,4 @@
--- The queue only loses: what a measure finds in an interval, the parts stateAfter a try and a shrunk interval hold no more of. So no cut lies in two
+-- The queue only loses: what a measure finds in an interval, the parts after a try and a shrunk interval hold no more of. So no cut lies in two
 -- intervals, at most f wait, and with weights 2k − 1, of which a try takes 1, at most 2f − 1 cuts are tried and the queue runs empty.
 -- Assumes nothing.
 use mathlib.Core.Path.{_≡_, refl, sym, ap, _∙_}

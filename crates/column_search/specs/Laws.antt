@@ -30,7 +30,7 @@ pub record Feasible (c : Column) (first last : ℕ) : Type 0 where
 abbrev pub count : ℕ → ℕ → ℕ
 count first last = suc last - first
 
--- the state stateAfter n intervals
+-- the state after n intervals
 abbrev pub stateAfter : Column → (bound first last error n : ℕ) → State
 stateAfter c bound first last error n = turns c bound n (start first last error)
 

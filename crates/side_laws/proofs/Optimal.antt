@@ -99,7 +99,7 @@ module _ (s : Sheet) (sound : Sound s) (support : ℕ) (mine : ℕ → Bool) whe
       at-total : All (λ r. keyOf s c r ≤ k) done → All (λ r. k < keyOf s c r) rest → rowsAt s mine ≤ asked s mine c k a b + totalOf t
       at-total low high = omega (arith, at-cut low high, left-best, right-best)
 
-    -- no row countedOf, or none to come: the question is as good as a leaf
+    -- no row before, or none to come: the question is as good as a leaf
     at-start : (rest : List ℕ) (t : SideScan) → Past s mine c [] rest t → Fits s rest t → Owns s support mine t → All (λ r. k < keyOf s c r) rest
         → rowsAt s mine ≤ asked s mine c k a b + leafCount s mine
     at-start rest t past fits owns high =
@@ -127,7 +127,7 @@ module _ (s : Sheet) (sound : Sound s) (support : ℕ) (mine : ℕ → Bool) whe
     empty [] h = refl
     empty (r ∷ rs) h = absurd (h .0)
 
-    -- the first row past the key has no cut countedOf it: it is the first row
+    -- the first row past the key has no cut before it: it is the first row
     no-cut : (g : Bool) (p : Float) (r : ℕ) → r < s .rows → Known s c g p → Till g p → k < keyOf s c r → T (not (g && not (eq p (valueOf s c r)))) → g ≡ false
     no-cut false p r i w h l n = refl
     no-cut true p r i w h l n =

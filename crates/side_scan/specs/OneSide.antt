@@ -84,7 +84,7 @@ later t l = getD (t .own) l 0 - getD (t .seen) l 0
 abbrev pub rowsLeft : SideScan → ℕ
 rowsLeft t = t .size - t .counted
 
--- Otherwise the cut countedOf it is scored: what it comes to, and its split, are those of cut_score, which says them by numbers.
+-- Otherwise the cut before it is scored: what it comes to, and its split, are those of cut_score, which says them by numbers.
 abbrev pub peaksAt : SideScan → Peaks
 peaksAt t = peaksOf (t .own) (t .seen) (t .labels)
 

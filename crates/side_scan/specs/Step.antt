@@ -28,7 +28,7 @@ Steppable t label = t .closed ≡ false → Ready t label
 
 -- ---- a side's leaf, at its start and at its end
 
--- a leaf of those rows, countedOf the first column
+-- a leaf of those rows, before the first column
 abbrev pub leafScan : List ℕ → ℕ → ℕ → ℕ → SideScan
 leafScan own size labels least = atStart own size labels least (leafBest (mostOf (counted own) labels))
 

@@ -1,4 +1,4 @@
--- `side_scan::best_counts::commonest_label` meets its contract (`Leaf.antt`). Assumes nothing.
+-- `side_scan::best_counts::commonest_label` meets its contract (`LeafLabel.antt`). Assumes nothing.
 use Rattle.side_scan.proofs.LeafLabel.{countable-none, leaf-is}
 use Rattle.side_scan.proofs.best_counts.commonest_label.Statement.{statement}
 use Rattle.side_scan.proofs.best_counts.commonest_label.Tie as tie
