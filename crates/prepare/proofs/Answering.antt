@@ -17,11 +17,11 @@ use Rattle.threshold.proofs.Keys.{finite-comparable}
 use Rattle.threshold.specs.Threshold.{within}
 use Rattle.threshold.proofs.Law.{within-finite}
 use Rattle.sheet.specs.Limits.{mostRows, mostColumns}
-use Rattle.sheet.specs.Check.{gridHolds, badValue}
+use Rattle.sheet.specs.Check.{gridHolds, badValue, firstBadValue}
 use Rattle.sheet.proofs.Answer.{rows-inside, columns-inside}
 use Rattle.prepare.specs.declared.Prepared.{Prepared}
 use Rattle.prepare.specs.declared.Prepared.the-variants.{Done, Refused}
-use Rattle.prepare.specs.Prepared.{exactRoom, firstOutside, prepareOf, leaves}
+use Rattle.prepare.specs.Prepared.{exactRoom, prepareOf, leaves}
 use Rattle.prepare.specs.Steps.{Columns}
 
 -- ---- the limits
@@ -92,24 +92,19 @@ module _ (values : List Float) where
     pub high : i ≤ length values
     pub before : (j : ℕ) → j < i → T (not (bad j))
 
-  pub stops-nowhere : (i : ℕ) → Passing i → length values ≤ i → i ≡ firstOutside values
-  unfolding firstOutside badValue
+  pub stops-nowhere : (i : ℕ) → Passing i → length values ≤ i → i ≡ firstBadValue values
+  unfolding badValue
   stops-nowhere i p h =
       sym (walk-unique bad (length values) 0 i
       (record { low = omega arith; high = omega (arith, p .high); before = λ j l h. p .before j h; found = λ l. absurd (omega arith) }))
-
-  -- the sheet's own walk finds it
-  pub found-outside : (i : ℕ) → i ≡ walk (badValue values) (length values) 0 → i ≡ firstOutside values
-  unfolding firstOutside
-  found-outside i e = e
 
   twice : (b : Bool) → T (not (not b)) → T b
   twice true t = tt
   twice false t = absurd t
 
   -- where there is none, every value is within the limit
-  pub all-within : length values ≤ firstOutside values → (i : ℕ) → i < length values → T (within (getD values i nan))
-  unfolding firstOutside badValue
+  pub all-within : length values ≤ firstBadValue values → (i : ℕ) → i < length values → T (within (getD values i nan))
+  unfolding badValue
   all-within h i l = twice (within (getD values i nan)) (walked bad (length values) 0 .before i (omega arith) (omega arith))
 
 -- ---- the answer
@@ -132,14 +127,14 @@ module _ (rows columns : ℕ) (values : List Float) (orders cuts counts : ℕ) w
   answer-3 e f g = rw (e, eq-eqb (length values) (rows * columns) f, g)
 
   pub answer-5 : gridHolds rows columns ≡ true → length values ≡ rows * columns → exactRoom (rows * columns) columns orders cuts counts ≡ true
-      → firstOutside values < length values → Refused 5 (firstOutside values) ≡ answer
+      → firstBadValue values < length values → Refused 5 (firstBadValue values) ≡ answer
   unfolding prepareOf pick
-  answer-5 e f g h = rw (e, eq-eqb (length values) (rows * columns) f, g, lt-ltb (firstOutside values) (length values) h)
+  answer-5 e f g h = rw (e, eq-eqb (length values) (rows * columns) f, g, lt-ltb (firstBadValue values) (length values) h)
 
   pub answer-none : gridHolds rows columns ≡ true → length values ≡ rows * columns → exactRoom (rows * columns) columns orders cuts counts ≡ true
-      → length values ≤ firstOutside values → Done ≡ answer
+      → length values ≤ firstBadValue values → Done ≡ answer
   unfolding prepareOf pick
-  answer-none e f g h = rw (e, eq-eqb (length values) (rows * columns) f, g, le-ltb (firstOutside values) (length values) h)
+  answer-none e f g h = rw (e, eq-eqb (length values) (rows * columns) f, g, le-ltb (firstBadValue values) (length values) h)
 
   -- a call that does not turn back
   pub record Accepted : Type 0 where
@@ -163,12 +158,12 @@ module _ (rows columns : ℕ) (values : List Float) (orders cuts counts : ℕ) w
       let one = refused (not (gridHolds rows columns)) 1 0 _ (sym e) in
       let two = refused (not (eqb (length values) (rows * columns))) 2 0 _ (one .1) in
       let three = refused (not (exactRoom (rows * columns) columns orders cuts counts)) 3 0 _ (two .1) in
-      let five = refused (ltb (firstOutside values) (length values)) 5 (firstOutside values) Done (three .1) in
+      let five = refused (ltb (firstBadValue values) (length values)) 5 (firstBadValue values) Done (three .1) in
       record {
         sized = limits rows columns (said (gridHolds rows columns) (one .0));
         values-exact = eqb-true (length values) (rows * columns) (said (eqb (length values) (rows * columns)) (two .0));
         roomy = room (rows * columns) columns orders cuts counts (said (exactRoom (rows * columns) columns orders cuts counts) (three .0));
-        all-in = all-within values (ltb-false (firstOutside values) (length values) (five .0));
+        all-in = all-within values (ltb-false (firstBadValue values) (length values) (five .0));
       }
 
 -- ---- the lists

@@ -9,9 +9,8 @@ use lib.ListN.{length, take, drop}
 use lib.Dec.{ltb, eqb}
 use lib.Ieee.{Float}
 use Rattle.basics.specs.Choice.{pick}
-use Rattle.basics.specs.Walk.{walk}
 use Rattle.sheet.specs.Reasons.{sizeOutside, lengthWrong, scratchShort, valueOutside}
-use Rattle.sheet.specs.Check.{gridHolds, badValue}
+use Rattle.sheet.specs.Check.{gridHolds, firstBadValue}
 use Rattle.prepare.specs.Lists.{rowsInOrder, cutCount, cutSlots}
 use Rattle.prepare.specs.declared.Prepared.{Prepared}
 use Rattle.prepare.specs.declared.Prepared.the-variants.{Done, Refused}
@@ -42,17 +41,13 @@ countList rows columns values = columnsJoined (λ c. cutCount rows (columnValues
 unfoldable pub exactRoom : ℕ → ℕ → ℕ → ℕ → ℕ → Bool
 exactRoom cells columns orders cuts counts = eqb orders cells && eqb cuts cells && eqb counts columns
 
--- reason 5: "first index", or the length if every value is within the limit
-unfoldable pub firstOutside : List Float → ℕ
-firstOutside values = walk (badValue values) (length values) 0
-
 -- "The lowest number wins": the answer for a values list and lists of these lengths
 unfoldable pub prepareOf : ℕ → ℕ → List Float → ℕ → ℕ → ℕ → Prepared
 prepareOf rows columns values orders cuts counts =
     pick (not (gridHolds rows columns)) (Refused sizeOutside 0)
     (pick (not (eqb (length values) (rows * columns))) (Refused lengthWrong 0)
     (pick (not (exactRoom (rows * columns) columns orders cuts counts)) (Refused scratchShort 0)
-    (pick (ltb (firstOutside values) (length values)) (Refused valueOutside (firstOutside values))
+    (pick (ltb (firstBadValue values) (length values)) (Refused valueOutside (firstBadValue values))
     Done)))
 
 -- document 01's number and place of an answer, if it turns back

@@ -14,9 +14,9 @@ use Rattle.basics.specs.Lists.{table}
 use Rattle.basics.proofs.Lists.{getD-table, length-table}
 use Rattle.threshold.specs.Threshold.{within}
 use Rattle.sheet.specs.declared.Checked.the-variants.{Accepted}
-use Rattle.sheet.specs.Check.{gridHolds, checkOf}
+use Rattle.sheet.specs.Check.{gridHolds, checkOf, firstBadValue}
 use Rattle.prepare.specs.declared.Prepared.the-variants.{Done}
-use Rattle.prepare.specs.Prepared.{prepareOf, exactRoom, firstOutside}
+use Rattle.prepare.specs.Prepared.{prepareOf, exactRoom}
 use Rattle.prepare.specs.Laws.{Taken}
 use Rattle.prepare.proofs.Answering.{by-counts, stops-nowhere, answer-none}
 use Rattle.prepare.proofs.Acceptance.{never-refused}
@@ -71,7 +71,7 @@ module _ (bytes : List ℕ) (h : Head) (a : read.Accepted bytes h) where
   exact : exactRoom cells (h .columns) cells cells (h .columns) ≡ true
   exact = sym (by-counts cells (h .columns) cells cells (h .columns) refl refl) ∙ eq-eqb (h .columns) (h .columns) refl
 
-  none-outside : length values ≤ firstOutside values
+  none-outside : length values ≤ firstBadValue values
   none-outside =
       let e =
       stops-nowhere values (length values)

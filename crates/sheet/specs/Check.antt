@@ -70,9 +70,17 @@ termsHold t = leb (t .support) mostSupport && leb (t .gap) mostError && leb (t .
 unfoldable pub badValue : List Float → ℕ → Bool
 badValue values index = not (within (getD values index nan))
 
+-- the first index of one, or the length if there is none
+abbrev pub firstBadValue : List Float → ℕ
+firstBadValue values = walk (badValue values) (length values) 0
+
 -- 6: "label code too high", at a row
 unfoldable pub badLabel : List ℕ → ℕ → ℕ → Bool
 badLabel codes labels row = leb labels (getD codes row 0)
+
+-- the first row of one, or the length if there is none
+abbrev pub firstBadLabel : List ℕ → ℕ → ℕ
+firstBadLabel codes labels = walk (badLabel codes labels) (length codes) 0
 
 -- 7: "order entry not below rows, or a row met before in its column", at sorted place i of column c. It was met before if its first place in
 -- the column is an earlier one

@@ -34,6 +34,10 @@ rowAt s c i = getD (s .order) (c * s .rows + i) 0
 unfoldable pub valueAt : Sheet → ℕ → ℕ → Float
 valueAt s c i = valueOf s c (rowAt s c i)
 
+-- the same of lists, of the column that begins at `base`
+abbrev pub valueListed : List Float → List ℕ → ℕ → ℕ → Float
+valueListed values order base i = getD values (base + getD order (base + i) 0) nan
+
 -- a cut of column c
 unfoldable pub isCut : Sheet → ℕ → ℕ → Bool
 isCut s c i = cutAt (valueAt s c) i

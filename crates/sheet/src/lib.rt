@@ -2,10 +2,9 @@
 ghost use mathlib.Core.Path.{_≡_};
 ghost use Prim.Native.Nat.{_+_, _<_, _≤_};
 ghost use lib.ListN.{length, getD};
-ghost use lib.Ieee.{nan};
-ghost use Rattle.basics.specs.Walk.{walk};
-ghost use Rattle.sheet.specs.Check.{between, gridHolds, sizeHolds, termsHold, badValue, badLabel, cleared};
+ghost use Rattle.sheet.specs.Check.{between, gridHolds, sizeHolds, termsHold, cleared, firstBadValue, firstBadLabel};
 ghost use Rattle.basics.specs.Lent.{before, after};
+ghost use Rattle.sheet.specs.Sheet.{valueListed};
 use basics::wide_byte;
 use basics::wide_entry;
 
@@ -76,7 +75,7 @@ pub fn clear(scratch: &mut [u32], words: usize)
 
 // The index of the first value that is not finite or too large; the number of values if there is none.
 pub fn first_bad_value(values: &[f64]) -> usize
-    ensures { λ r. ⌜ r ≡ walk (badValue (before values)) (length (before values)) 0 ⌝ }
+    ensures { λ r. ⌜ r ≡ firstBadValue (before values) ⌝ }
 {
     let mut i: usize = 0;
     while i < values.len() {
@@ -90,7 +89,7 @@ pub fn first_bad_value(values: &[f64]) -> usize
 
 // The first row whose label code is too high; the number of rows if there is none.
 pub fn first_bad_label(codes: &[u8], labels: usize) -> usize
-    ensures { λ r. ⌜ r ≡ walk (badLabel (before codes) labels) (length (before codes)) 0 ⌝ }
+    ensures { λ r. ⌜ r ≡ firstBadLabel (before codes) labels ⌝ }
 {
     let mut i: usize = 0;
     while i < codes.len() {
@@ -105,7 +104,7 @@ pub fn first_bad_label(codes: &[u8], labels: usize) -> usize
 // The value at a sorted place of the column whose entries start at base.
 pub fn value_at(values: &[f64], order: &[u16], base: usize, place: usize) -> f64
     requires { ⌜ (base + place < length (now order)) × (base + getD (now order) (base + place) 0 < length (now values)) ⌝ }
-    ensures { λ r. ⌜ r ≡ getD (before values) (base + getD (before order) (base + place) 0) nan ⌝ }
+    ensures { λ r. ⌜ r ≡ valueListed (before values) (before order) base place ⌝ }
 {
     let row = wide_entry(order[base + place]);
     values[base + row]

@@ -3,6 +3,8 @@ use mathlib.Core.Path.{_≡_}
 use mathlib.Core.Logic.{_⊎_}
 use Prim.Native.Nat.{ℕ, _+_, _-_, _*_, _/_, _^_}
 use mathlib.Core.Bool.{Bool, true, false, not, _&&_, _||_}
+use mathlib.Core.List.{List}
+use lib.ListN.{getD}
 use lib.Dec.{T, leb, ltb, eqb}
 use lib.IntN.{pos}
 use lib.Ieee.{Float, nan, inf, fin, Format, binary64, low, up, down, lt, le, eq, fits, isNan}
@@ -51,6 +53,10 @@ rank f (fin s m e) = rankAt (overflow f) s (m * up e * 2 ^ low f / down e)
 -- of an f64, in units of 2 ^ -1074
 abbrev pub key : Float → ℕ
 key x = rank binary64 x
+
+-- whether the value at index a is below that at index b
+abbrev pub rowBelow : List Float → ℕ → ℕ → Bool
+rowBelow values a b = isBelow (getD values a nan) (getD values b nan)
 
 -- ---- the laws of one or two values
 
