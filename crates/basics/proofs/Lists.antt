@@ -10,7 +10,7 @@ use lib.Seq.{take-suc}
 use lib.Dec.{T}
 use Rattle.basics.specs.Choice.{pick, bit}
 use Rattle.basics.specs.Lists.{All, Any, here, there, total, tally, those, table}
-use Rattle.basics.proofs.Choice.{by-test, bit-true, bit-false, bit-le, bit-and-true, bit-and-false, bit-halves}
+use Rattle.basics.proofs.Choice.{by-test, decide, bit-true, bit-false, bit-le, bit-and-true, bit-and-false, bit-halves}
 
 -- ---- every member, some member
 
@@ -125,6 +125,18 @@ tally-front p (x ∷ xs) d (suc n) h f g =
     omega (arith, bit-true (p x) (f 0 (omega arith)), tally-front p xs d n (omega arith) (λ i k. f (suc i) (omega arith)) (λ i k l. g (suc i) (omega arith) (omega arith)))
 
 -- ---- the members that pass
+
+-- what is counted in a list stands in it
+pub table-has : (p : ℕ → Bool) (g : ℕ → ℕ) (n i : ℕ) → i < n → T (p (g i)) → 1 ≤ tally p (table g n)
+table-has p g zero i h y = absurd (omega arith)
+table-has p g (suc n) zero h y = omega (arith, bit-true (p (g 0)) y)
+table-has p g (suc n) (suc i) h y = omega (arith, table-has p (λ k. g (suc k)) n i (omega arith) y)
+
+pub table-find : (p : ℕ → Bool) (g : ℕ → ℕ) (n : ℕ) → 1 ≤ tally p (table g n) → (i : ℕ) × (i < n) × T (p (g i))
+table-find p g zero h = absurd (omega arith)
+table-find p g (suc n) h =
+    decide (p (g 0)) (λ y. (0, omega arith, y))
+    (λ m. let z = table-find p (λ k. g (suc k)) n (omega (arith, bit-false (p (g 0)) m)) in (suc (z .0), omega (arith, z .1), z .2))
 
 pub length-those {ℓ} : {A : Type ℓ} (p : A → Bool) (xs : List A) → length (those p xs) ≡ tally p xs
 length-those p [] = refl

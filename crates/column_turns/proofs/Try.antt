@@ -3,12 +3,13 @@
 use mathlib.Core.Path.{_≡_, refl, sym, ap, _∙_, subst}
 use Prim.Native.Nat.{ℕ, zero, suc, _+_, _-_, _*_, _≤_, _<_}
 use native.Mathlib.Omega.{arith}
-use mathlib.Core.Bool.{Bool, not}
+use mathlib.Core.Bool.{Bool, true, false, not}
 use mathlib.Core.List.{List}
 use lib.ListN.{length, getD}
 use lib.Dec.{eqb}
 use lib.Ieee.{Float, nan}
 use Rattle.basics.specs.Choice.{pick}
+use Rattle.basics.proofs.Choice.{by-test}
 use Rattle.basics.proofs.Lists.{tally-le, length-table}
 use Rattle.threshold.specs.Threshold.{thresholdOf, goesLeft}
 use Rattle.sheet.specs.declared.Size.{Size}
@@ -67,6 +68,12 @@ pub read-place : (size : Size) (values : List Float) (order cuts : List ℕ) (co
     → (column * size .rows + i < length order) × (column * size .rows + getD order (column * size .rows + i) 0 < length values)
 read-place size values order cuts column cut i h k = (omega (arith, h .ordered), omega (arith, h .valued, h .in-rows i k))
 
+-- a mark is 0 where the test passes
+mark-zero : (b : Bool) → eqb (pick b 0 1) 0 ≡ b
+unfolding pick
+mark-zero true = refl
+mark-zero false = refl
+
 -- ---- a cut of an accepted sheet
 
 module _ (s : Sheet) (whole : Whole s) (c k : ℕ) (here : c < s .columns) (cut-in : k < countOf s c) where
@@ -74,15 +81,22 @@ module _ (s : Sheet) (whole : Whole s) (c k : ℕ) (here : c < s .columns) (cut-
   sound = whole .sound
 
   -- the marks say what the cut does
-  pub marks-tell : (size : Size) (marks : List ℕ) → size .rows ≡ s .rows → MarkedTo size (s .order) c (placeOf s c k) marks (s .rows)
-      → (r : ℕ) → r < s .rows → goLeft marks r ≡ sentLeft s (cutQuestion s c k) r
+  marks-are : (size : Size) (marks : List ℕ) → size .rows ≡ s .rows → MarkedTo size (s .order) c (placeOf s c k) marks (s .rows)
+      → (r : ℕ) → r < s .rows → getD marks r 0 ≡ pick (sentLeft s (cutQuestion s c k) r) 0 1
   unfolding rowAt
-  marks-tell size marks e marked r h =
+  marks-are size marks e marked r h =
       let left : ℕ → Bool = sentLeft s (cutQuestion s c k) in
       let m : MarkedTo (record { rows = s .rows; columns = size .columns; labels = size .labels }) (s .order) c (placeOf s c k) marks (s .rows) =
       subst (λ (n : ℕ). MarkedTo (record { rows = n; columns = size .columns; labels = size .labels }) (s .order) c (placeOf s c k) marks (s .rows)) e marked in
       let z = place-of s sound c here r h in
-      subst (λ (n : ℕ). goLeft marks n ≡ left n) (z .2) (m left (λ i l. at-cuts s sound c k here cut-in .parts i l) (z .0) (z .1))
+      subst (λ (n : ℕ). getD marks n 0 ≡ pick (left n) 0 1) (z .2) (m left (λ i l. at-cuts s sound c k here cut-in .parts i l) (z .0) (z .1))
+
+  module _ (size : Size) (marks : List ℕ) (e : size .rows ≡ s .rows) (marked : MarkedTo size (s .order) c (placeOf s c k) marks (s .rows)) (r : ℕ) (h : r < s .rows) where
+    pub marks-tell : goLeft marks r ≡ sentLeft s (cutQuestion s c k) r
+    marks-tell = ap (λ (m : ℕ). eqb m 0) (marks-are size marks e marked r h) ∙ mark-zero (sentLeft s (cutQuestion s c k) r)
+
+    pub marks-number : getD marks r 0 < 2
+    marks-number = rw (marks-are size marks e marked r h) (by-test (λ m. m < 2) (sentLeft s (cutQuestion s c k) r) (λ _. omega arith) (λ _. omega arith))
 
   -- both errors together
   pub errors-few : (support : ℕ) → (errorsAt s support c k) .0 + (errorsAt s support c k) .1 ≤ s .rows
@@ -135,14 +149,17 @@ module _ (size : Size) (values : List Float) (codes order cuts : List ℕ) (colu
         enough = trying .enough;
       }
 
-  pub tried-scannable : (marks : List ℕ) → length marks ≡ size .rows → Scannable (scanOf sheet) marks
-  tried-scannable marks e =
+  pub tried-scannable : (marks : List ℕ) → length marks ≡ size .rows → MarkedTo size order column (getD cuts (column * size .rows + cut) 0) marks (size .rows)
+      → Scannable (scanOf sheet) marks
+  unfolding placeOf
+  tried-scannable marks e marked =
       accepted sheet marks (trying .whole .sound)
       (record {
         ordered = omega (arith, trying .whole .lengths .order-all);
         valued = omega (arith, trying .whole .lengths .values-all);
         coded = omega (arith, trying .whole .lengths .codes-all);
         marked = omega arith;
+        numbered = λ r h. marks-number sheet (trying .whole) column cut (trying .here) (trying .cut-in) size marks refl marked r h;
       })
 
   -- What the scan of the marks comes to. How many cuts are listed does not matter to it.

@@ -4,8 +4,9 @@ use Prim.Native.Nat.{ℕ, zero, suc, _+_, _*_, _≤_, _<_}
 use mathlib.Core.Bool.{Bool}
 use mathlib.Core.List.{List}
 use lib.ListN.{length, getD}
-use lib.Dec.{ltb, eqb}
+use lib.Dec.{ltb}
 use lib.Ieee.{Float}
+use Rattle.basics.specs.Choice.{pick}
 use Rattle.sheet.specs.declared.Size.{Size}
 use Rattle.sheet.specs.Limits.{mostRows, mostColumns}
 use Rattle.sheet.specs.Sheet.{countOf}
@@ -31,12 +32,12 @@ pub record Marking (size : Size) (order : List ℕ) (column : ℕ) (marks : List
   pub marked : size .rows ≤ length marks
   pub in-rows : (i : ℕ) → i < size .rows → getD order (column * size .rows + i) 0 < size .rows
 
--- If a question sends left just the rows placed before the cut, then of the first n places the rows that go left, and no others, have mark 0.
+-- If a question sends left just the rows placed before the cut, then of the first n places the rows that go left have mark 0, and the others mark 1.
 abbrev pub MarkedTo : Size → List ℕ → ℕ → ℕ → List ℕ → ℕ → Type 0
 MarkedTo size order column place marks n =
     (left : ℕ → Bool) → ((i : ℕ) → i < size .rows → left (getD order (column * size .rows + i) 0) ≡ ltb i place)
     → (i : ℕ) → i < n
-    → eqb (getD marks (getD order (column * size .rows + i) 0) 0) 0 ≡ left (getD order (column * size .rows + i) 0)
+    → getD marks (getD order (column * size .rows + i) 0) 0 ≡ pick (left (getD order (column * size .rows + i) 0)) 0 1
 
 -- the same, with the marks in the lent words, and a cut of the list
 pub record MarkingCut (size : Size) (order cuts : List ℕ) (column cut : ℕ) (scratch : List ℕ) : Type 0 where

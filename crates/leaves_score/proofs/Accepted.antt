@@ -26,7 +26,7 @@ accepted s marks h k =
             labels-some = h .limited .labels-some;
             labels-most = h .limited .labels-most;
           };
-      lent = record { ordered = k .ordered; valued = k .valued; coded = k .coded; marked = k .marked };
+      lent = record { ordered = k .ordered; valued = k .valued; coded = k .coded; marked = k .marked; numbered = k .numbered };
       labelled = h .labelled;
       in-rows = λ c l. h .column c l .in-rows;
       each-once = λ c l. h .column c l .each-once;

@@ -1,283 +1,297 @@
--- One side's scan of a column by numbers: its counts, the count up to which its rows are skipped, its last row and its best. They stand for the record of
--- the definition while the side is open; once it is closed only its best is looked at. Every row keeps that (`Stands`). Assumes nothing.
-use Prim.Native.Nat.{ℕ, _+_, _-_, _*_, _≤_, _<_}
+-- A column's rows one after another, the sides' records by the side's number: a row moves its own side on and leaves the other where it stands, and the
+-- early end is asked after it. So the rows leave what the definition says. Assumes nothing.
+use Prim.Native.Nat.{ℕ, zero, suc, _+_, _-_, _≤_, _<_}
 use native.Mathlib.Omega.{arith}
-use mathlib.Core.Path.{_≡_, refl, sym, ap, subst, _∙_}
-use mathlib.Core.Bool.{Bool, true, false, not, _&&_, _||_}
-use mathlib.Core.List.{List, [], _∷_}
-use lib.ListN.{length, getD}
-use lib.Dec.{T, leb, ltb, eqb, ltb→lt, lt→ltb, nltb→le, leb→le, nleb→lt}
-use borrow.Author.Tests.{lt-ltb}
-use lib.Ieee.{Float, nan, eq}
+use native.Mathlib.Numerals.{add-one}
+use mathlib.Core.Path.{_≡_, refl, sym, ap, ap₂, subst, _∙_}
+use mathlib.Core.Bool.{Bool, true, false, not, _||_}
+use mathlib.Core.List.{List, _∷_}
+use lib.ListN.{length, getD, set, length-set}
+use lib.Seq.{getD-set-same, getD-set-other}
+use lib.Dec.{T, leb, eqb, eqb→eq, leb→le}
 use Rattle.basics.specs.Choice.{pick}
-use Rattle.basics.specs.Lists.{tally}
-use Rattle.basics.proofs.Choice.{order, reach, decide, same-bool, pick-true, pick-false, and-left, nor-left, nor-right}
+use Rattle.basics.specs.Lists.{those}
+use Rattle.basics.proofs.Choice.{decide, neqb, same-bool, pick-true, pick-false}
 use Rattle.basics.proofs.Lists.{tally-le}
 use Rattle.sheet.specs.Limits.{mostRows}
-use Rattle.sheet.specs.Sheet.{Sheet, valueOf, labelOf}
-use Rattle.side_scan.specs.declared.cut_score.Best.{Best}
-use Rattle.side_scan.specs.declared.cut_score.Cut.{Cut}
-use Rattle.side_scan.specs.declared.cut_score.CutVerdict.{CutVerdict}
+use Rattle.sheet.specs.Sheet.{Sheet, valueOf, labelOf, rowAt}
 use Rattle.side_scan.specs.declared.SideScan.{SideScan}
-use Rattle.side_scan.specs.Counts.{noRows, peaksOf}
-use Rattle.side_scan.specs.Scored.{fallen, verdictOf, splitBy}
-use Rattle.side_scan.specs.Passing.{passed, untilAfter, cutScored, Scorable}
-use Rattle.side_scan.specs.OneSide.{nought, restarted, quiet, rowsLeft, rightBest, supported, verdictAt, takes, bestAfter, skipAfter, closes, totalOf, raised, countRow, onlyCounted, scored, atStart}
-use Rattle.leaves_score.specs.Column.{rowStep, through}
-use Rattle.leaves_score.specs.Kept.{CountsKept, Open, Live}
-use Rattle.leaves_score.proofs.Counts.{counts-step}
-use Rattle.leaves_score.proofs.Live.{open-counted, open-scored}
-use Rattle.leaves_score.proofs.Single.{shut, frozen}
-use Rattle.side_scan.proofs.Steps.{opened}
+use Rattle.side_scan.specs.OneSide.{restarted, rowsLeft, countRow, onlyCounted, scored}
+use Rattle.side_scan.specs.Step.{Ready}
+use Rattle.leaves_score.specs.declared.two_sides.Two.{Two}
+use Rattle.leaves_score.specs.Column.{other, rowStep, stepBoth, idle, ended, scanRows, scanColumn}
+use Rattle.leaves_score.specs.Kept.{rowsToCome, Fits, Live}
+use Rattle.leaves_score.specs.Lists.{goLeft}
+use Rattle.leaves_score.specs.SideLists.{sideAt, bothAt, ReadyColumn}
+use Rattle.leaves_score.proofs.Counts.{later-is}
+use Rattle.leaves_score.proofs.Live.{step-any, step-open, step-closed, live-step}
+use Rattle.leaves_score.proofs.Coupled.{ended-left, ended-right}
+use Rattle.leaves_score.proofs.Rows.{by-two, left-number, right-number}
 
--- ---- tests
+-- ---- a list by the side's number, of which one place changes
 
-and-picked : (a : Bool) (x n v : Float) → (a && eq (pick a x n) v) ≡ (a && eq x v)
-unfolding pick
-and-picked true x n v = refl
-and-picked false x n v = refl
+pub record Changed {A : Type 0} (xs ys : List A) (side : ℕ) (y d : A) : Type 0 where
+  pub two : length ys ≡ 2
+  pub at : getD ys side d ≡ y
+  pub elsewhere : (k : ℕ) → (k ≡ side → ⊥) → getD ys k d ≡ getD xs k d
 
-or-swap : (a b : Bool) → (a || b) ≡ (b || a)
-or-swap true true = refl
-or-swap true false = refl
-or-swap false true = refl
-or-swap false false = refl
+pub set-at : {A : Type 0} (xs : List A) (side : ℕ) (y d : A) → length xs ≡ 2 → side < 2 → Changed xs (set xs side y) side y d
+set-at xs side y d h l =
+    record { two = length-set xs side y ∙ h; at = getD-set-same xs side y d (omega arith); elsewhere = λ k n. getD-set-other xs side k y d n }
 
--- a skip that has fallen is above 0 as long as the count is not reached
-skips-on : (rows until : ℕ) → ltb (rows + 1) until ≡ ltb 0 (fallen (until - rows))
-skips-on rows until =
-    same-bool (ltb (rows + 1) until) (ltb 0 (fallen (until - rows))) (λ t. lt→ltb 0 (fallen (until - rows)) (omega (arith, ltb→lt (rows + 1) until t)))
-    (λ t. lt→ltb (rows + 1) until (omega (arith, ltb→lt 0 (fallen (until - rows)) t)))
+-- ---- the rows of a side
 
-module _ (s : Sheet) (c : ℕ) (z : SideScan) where
-  -- the record that the numbers stand for, while the side is open
-  abbrev pub shown : List ℕ → ℕ → ℕ → ℕ → Best → SideScan
-  shown seen rows until last best =
+abbrev mine : List ℕ → ℕ → ℕ → Bool
+mine marks zero r = goLeft marks r
+mine marks (suc k) r = other (goLeft marks) r
+
+mine-own : (marks : List ℕ) (r k : ℕ) → k < 2 → getD marks r 0 ≡ k → mine marks k r ≡ true
+mine-own marks r k h = by-two (λ k. getD marks r 0 ≡ k → mine marks k r ≡ true) k h (left-number marks r) (λ e. ap not (right-number marks r e))
+
+mine-other : (marks : List ℕ) (r k side : ℕ) → k < 2 → side < 2 → getD marks r 0 ≡ side → (k ≡ side → ⊥) → mine marks k r ≡ false
+mine-other marks r k side h l e n =
+    by-two (λ k. (k ≡ side → ⊥) → mine marks k r ≡ false) k h
+    (λ n. right-number marks r (e ∙ first side l n)) (λ n. ap not (left-number marks r (e ∙ zeroth side l n))) n
+  where
+    first : (x : ℕ) → x < 2 → (0 ≡ x → ⊥) → x ≡ 1
+    first zero h n = absurd (n refl)
+    first (suc zero) h n = refl
+    first (suc (suc x)) h n = absurd (omega arith)
+
+    zeroth : (x : ℕ) → x < 2 → (1 ≡ x → ⊥) → x ≡ 0
+    zeroth zero h n = refl
+    zeroth (suc zero) h n = absurd (n refl)
+    zeroth (suc (suc x)) h n = absurd (omega arith)
+
+those-yes : (p : ℕ → Bool) (x : ℕ) (xs : List ℕ) → p x ≡ true → those p (x ∷ xs) ≡ x ∷ those p xs
+those-yes p x xs e = unfold pick in ap (λ (b : Bool). pick b (x ∷ those p xs) (those p xs)) e
+
+those-no : (p : ℕ → Bool) (x : ℕ) (xs : List ℕ) → p x ≡ false → those p (x ∷ xs) ≡ those p xs
+those-no p x xs e = unfold pick in ap (λ (b : Bool). pick b (x ∷ those p xs) (those p xs)) e
+
+-- ---- what is kept of one side
+
+pub record Kept (s : Sheet) (rest : List ℕ) (t : SideScan) : Type 0 where
+  pub live : Live s rest t
+  pub labels : t .labels ≡ s .labels
+  pub small : t .size ≤ mostRows
+  pub within : t .counted ≤ t .size
+
+module _ (s : Sheet) (r : ℕ) (rs : List ℕ) (t : SideScan) (h : Kept s (r ∷ rs) t) where
+  fits : t .closed ≡ false → Fits s (r ∷ rs) t
+  fits e = h .live (subst (λ (b : Bool). T (not b)) (sym e) tt) .fits
+
+  -- an open side can take the row
+  pub can-take : t .closed ≡ false → labelOf s r < s .labels → Ready t (labelOf s r)
+  can-take e k =
+      let f : Fits s (r ∷ rs) t = fits e in
       record {
-        own = z .own;
-        size = z .size;
-        labels = z .labels;
-        least = z .least;
-        best = best;
-        seen = seen;
-        counted = rows;
-        skip = until - rows;
-        closed = false;
-        started = ltb 0 rows;
-        previous = pick (ltb 0 rows) (valueOf s c last) nought;
+        some = f .some;
+        few = f .most;
+        coded = omega (arith, h .labels, k);
+        more = omega (arith, f .rows);
+        small = h .small;
+        own = λ l m. omega (arith, f .sums l m);
+        seen = f .few;
+        left = λ l m. omega (arith, later-is s (r ∷ rs) t f l m, tally-le (λ r. eqb (labelOf s r) l) (r ∷ rs), f .rows);
       }
 
-  -- what is to come of the rows leads to the target; a closed side has reached it
-  pub record Stands (target : SideScan) (rest seen : List ℕ) (rows until last : ℕ) (best : Best) : Type 0 where
-    pub counts : CountsKept s rest (z .own) seen (z .labels) (z .size) rows
-    pub among : last < s .rows
-    pub hope : until ≤ z .size → Open s rest (shown seen rows until last best)
-    pub same : until ≤ z .size → restarted (through s c rest (shown seen rows until last best)) ≡ target
-    pub shut-at : z .size < until → restarted (shown seen rows until last best) ≡ target
-
-  -- ---- a row counted
-
-  counted-is : (seen : List ℕ) (rows until last : ℕ) (best found : Best) (skip next label r : ℕ) (closed : Bool) → closed ≡ false → next - (rows + 1) ≡ skip
-      → countRow (shown seen rows until last best) found skip closed label (valueOf s c r) ≡ shown (raised seen label) (rows + 1) next r found
-  unfolding countRow
-  counted-is seen rows until last best found skip next label r closed e k =
-      let started : ltb 0 (rows + 1) ≡ true = lt-ltb 0 (rows + 1) (omega arith) in
-      let previous : pick (ltb 0 (rows + 1)) (valueOf s c r) nought ≡ valueOf s c r = pick-true (ltb 0 (rows + 1)) (valueOf s c r) nought (subst T (sym started) tt) in
-      cc
-
-  quiet-is : (seen : List ℕ) (rows until last r : ℕ) (best : Best)
-      → quiet (shown seen rows until last best) (valueOf s c r) ≡ passed (s .values) (c * s .rows) r last rows until
-  unfolding quiet passed valueOf
-  quiet-is seen rows until last r best =
-      ap (λ (b : Bool). b || ltb 0 (fallen (until - rows))) (and-picked (ltb 0 rows) (valueOf s c last) nought (valueOf s c r))
-      ∙ or-swap (ltb 0 rows && eq (valueOf s c last) (valueOf s c r)) (ltb 0 (fallen (until - rows)))
-      ∙ sym (ap (λ (b : Bool). b || (ltb 0 rows && eq (valueOf s c last) (valueOf s c r))) (skips-on rows until))
-
-  -- ---- a row of the side
-
-  module _ (target : SideScan) (r : ℕ) (rs seen : List ℕ) (rows until last : ℕ) (best : Best) (h : Stands target (r ∷ rs) seen rows until last best) (here : r < s .rows) where
-    abbrev now : SideScan
-    now = shown seen rows until last best
-
-    pub room : rows < z .size
-    room = omega (arith, h .counts .rows)
-
-    next-counts : CountsKept s rs (z .own) (raised seen (labelOf s r)) (z .labels) (z .size) (rows + 1)
-    next-counts = counts-step s r rs (z .own) seen (z .labels) (z .size) rows (h .counts)
-
-    -- that is only counted
-    pub passes : passed (s .values) (c * s .rows) r last rows until ≡ true → Stands target rs (raised seen (labelOf s r)) (rows + 1) until r best
-    unfolding through restarted
-    passes e =
-        record {
-          counts = next-counts;
-          among = here;
-          hope = λ k. subst (λ (t : SideScan). Open s rs t) step (open-counted s c r rs now (h .hope k));
-          same = λ k. ap (λ (t : SideScan). restarted (through s c rs t)) (sym (row ∙ step)) ∙ h .same k;
-          shut-at = h .shut-at;
-        }
-      where
-        step : onlyCounted now (labelOf s r) (valueOf s c r) ≡ shown (raised seen (labelOf s r)) (rows + 1) until r best
-        step = unfold onlyCounted in counted-is seen rows until last best best (fallen (until - rows)) until (labelOf s r) r false refl (omega arith)
-
-        row : rowStep s c r now ≡ onlyCounted now (labelOf s r) (valueOf s c r)
-        row = unfold pick in opened now c (labelOf s r) (valueOf s c r) true refl (quiet-is seen rows until last r best ∙ e)
-
-    -- whose cut is scored: the skip has fallen to 0, and the side is open
-    module _ (e : passed (s .values) (c * s .rows) r last rows until ≡ false) where
-      low : until ≤ rows + 1
-      unfolding passed
-      low = nltb→le (rows + 1) until (nor-left (ltb (rows + 1) until) (ltb 0 rows && eq (getD (s .values) (c * s .rows + last) nan) (getD (s .values) (c * s .rows + r) nan)) (subst (λ (b : Bool). T (not b)) (sym e) tt))
-
-      is-open : until ≤ z .size
-      is-open = omega (arith, low, room)
-
-      row-is : rowStep s c r now ≡ scored now c (labelOf s r) (valueOf s c r)
-      row-is = unfold pick in opened now c (labelOf s r) (valueOf s c r) false refl (quiet-is seen rows until last r best ∙ e)
-
-      leads : restarted (through s c rs (scored now c (labelOf s r) (valueOf s c r))) ≡ target
-      unfolding through
-      leads = ap (λ (t : SideScan). restarted (through s c rs t)) (sym row-is) ∙ h .same is-open
-
-      verdict : verdictOf (peaksOf (z .own) seen (z .labels)) rows (z .size - rows) (z .least) (best .score) 0
-          ≡ verdictAt now
-      verdict = ap (λ (n : ℕ). verdictOf (peaksOf (z .own) seen (z .labels)) rows (z .size - rows) (z .least) (best .score) n) none
-        where
-          none : 0 ≡ fallen (until - rows)
-          none = omega (arith, low)
-
-      best-now : 1 ≤ z .least → pick (takes now) (splitBy (peaksOf (z .own) seen (z .labels)) rows (z .size - rows) c (valueOf s c last) (valueOf s c r)) best
-          ≡ bestAfter now c (valueOf s c r)
-      unfolding bestAfter
-      best-now k =
-          decide (takes now)
-          (λ t. ap (λ (v : Float). pick (takes now) (split v) best) (sym (pick-true (ltb 0 rows) (valueOf s c last) nought (lt→ltb 0 rows (counts-some t)))))
-          (λ t. pick-false (takes now) _ _ t ∙ sym (pick-false (takes now) _ _ t))
-        where
-          split : Float → Best
-          split v = splitBy (peaksOf (z .own) seen (z .labels)) rows (z .size - rows) c v (valueOf s c r)
-
-          with-support : T (takes now) → T (supported now)
-          with-support t = and-left (supported now) (ltb (best .score) (totalOf now)) (unfold verdictOf in t)
-
-          counts-some : T (takes now) → 1 ≤ rows
-          counts-some t = omega (arith, k, leb→le (z .least) rows (and-left (leb (z .least) rows) (leb (z .least) (rowsLeft now)) (with-support t)))
-
-      module _ (some : 1 ≤ z .least) (k : Cut) (found : Best) (ek : k ≡ cutScored (z .own) seen (z .labels) rows (z .size) (z .least) (best .score))
-          (ef : found ≡ pick (k .taken) (splitBy (k .peaks) rows (z .size - rows) c (valueOf s c last) (valueOf s c r)) best) where
-        until-is : k .until ≡ pick (closes now) (z .size + 1) (rows + 1 + skipAfter now)
-        unfolding cutScored untilAfter
-        until-is = ap (λ (k : Cut). k .until) ek ∙ ap (λ (v : CutVerdict). pick (v .closed) (z .size + 1) (rows + 1 + v .skip)) verdict
-
-        found-is : found ≡ bestAfter now c (valueOf s c r)
-        unfolding cutScored
-        found-is =
-            ef
-            ∙ ap (λ (k : Cut). pick (k .taken) (splitBy (k .peaks) rows (z .size - rows) c (valueOf s c last) (valueOf s c r)) best) ek
-            ∙ ap (λ (v : CutVerdict). pick (v .taken) (splitBy (peaksOf (z .own) seen (z .labels)) rows (z .size - rows) c (valueOf s c last) (valueOf s c r)) best) verdict
-            ∙ best-now some
-
-        -- it closes
-        closing : T (closes now) → Stands target rs (raised seen (labelOf s r)) (rows + 1) (k .until) r found
-        closing y =
-            record {
-              counts = next-counts;
-              among = here;
-              hope = λ n. absurd (omega (arith, past, n));
-              same = λ n. absurd (omega (arith, past, n));
-              shut-at = λ _. crosses ∙ sym (ap restarted (shut s c rs (scored now c (labelOf s r) (valueOf s c r)) (unfold scored countRow in y))) ∙ leads;
-            }
-          where
-            past : k .until ≡ z .size + 1
-            past = until-is ∙ pick-true (closes now) (z .size + 1) (rows + 1 + skipAfter now) y
-
-            crosses : restarted (shown (raised seen (labelOf s r)) (rows + 1) (k .until) r found) ≡ restarted (scored now c (labelOf s r) (valueOf s c r))
-            crosses = unfold restarted scored countRow in ap (λ (b : Best). restarted (shown seen rows until last b)) found-is
-
-        -- or stays open
-        opening : T (not (closes now)) → Stands target rs (raised seen (labelOf s r)) (rows + 1) (k .until) r found
-        opening n =
-            record {
-              counts = next-counts;
-              among = here;
-              hope = λ _. subst (λ (t : SideScan). Open s rs t) step (open-scored s c r rs now heard (h .hope is-open));
-              same = λ _. ap (λ (t : SideScan). restarted (through s c rs t)) (sym step) ∙ leads;
-              shut-at = λ y. absurd (omega (arith, short, fewer, room, y));
-            }
-          where
-            short : k .until ≡ rows + 1 + skipAfter now
-            short = until-is ∙ pick-false (closes now) (z .size + 1) (rows + 1 + skipAfter now) n
-
-            fewer : skipAfter now < z .size - rows
-            fewer = nleb→lt (rowsLeft now) (skipAfter now) (nor-right (eqb (rightBest now) (rowsLeft now)) (leb (rowsLeft now) (skipAfter now)) (unfold verdictOf in n))
-
-            heard : T (not (quiet now (valueOf s c r)))
-            heard = subst (λ (b : Bool). T (not b)) (sym (quiet-is seen rows until last r best ∙ e)) tt
-
-            shuts-not : (b : Bool) → T (not b) → b ≡ false
-            shuts-not true t = absurd t
-            shuts-not false t = refl
-
-            made : scored now c (labelOf s r) (valueOf s c r) ≡ shown (raised seen (labelOf s r)) (rows + 1) (k .until) r (bestAfter now c (valueOf s c r))
-            made =
-                unfold scored in counted-is seen rows until last best (bestAfter now c (valueOf s c r)) (skipAfter now) (k .until) (labelOf s r) r (closes now) (shuts-not (closes now) n)
-                (omega (arith, short))
-
-            step : scored now c (labelOf s r) (valueOf s c r) ≡ shown (raised seen (labelOf s r)) (rows + 1) (k .until) r found
-            step = made ∙ ap (λ (b : Best). shown (raised seen (labelOf s r)) (rows + 1) (k .until) r b) (sym found-is)
-
-        pub scores : Stands target rs (raised seen (labelOf s r)) (rows + 1) (k .until) r found
-        scores = decide (closes now) closing opening
-
-  -- ---- the end
-
-  module _ (target : SideScan) (rest seen : List ℕ) (rows until last : ℕ) (best : Best) (h : Stands target rest seen rows until last best) where
-    shut-best : z .size < until → best ≡ target .best
-    shut-best k = unfold restarted in ap (λ (t : SideScan). t .best) (h .shut-at k)
-
-    -- no cut to come can be taken
-    pub ends : z .size ≤ until → best ≡ target .best
-    ends k = reach (z .size) until k (λ e. open-best (omega (arith, e))) shut-best
-      where
-        open-best : until ≤ z .size → best ≡ target .best
-        open-best n =
-            unfold restarted in ap (λ (t : SideScan). t .best)
-            (sym (frozen s c rest (shown seen rows until last best) (λ _. h .hope n) (omega (arith, k, h .counts .rows))) ∙ h .same n)
-
-  -- no row is left
-  pub finished : (target : SideScan) (seen : List ℕ) (rows until last : ℕ) (best : Best) → Stands target [] seen rows until last best → best ≡ target .best
-  unfolding through
-  finished target seen rows until last best h =
-      order until (z .size) (λ n. unfold restarted in ap (λ (t : SideScan). t .best) (h .same n)) (shut-best target [] seen rows until last best h)
-
-  -- what a cut asks
-  pub scorable : (target : SideScan) (r : ℕ) (rs seen : List ℕ) (rows until last : ℕ) (best : Best) → Stands target (r ∷ rs) seen rows until last best → z .size ≤ mostRows
-      → Scorable (z .own) seen (z .labels) rows (z .size)
-  scorable target r rs seen rows until last best h small =
-      let k = h .counts in
+  kept-step : (c : ℕ) → Kept s rs (rowStep s c r t)
+  kept-step c =
       record {
-        countable = record { some = k .some; few = k .most; within = λ l n. omega (arith, k .sums l n) };
-        more = omega (arith, k .rows);
-        small = small;
-        seen = k .few;
-        left = λ l n. to-come (getD (z .own) l 0) (getD seen l 0) (tally (λ r. eqb (labelOf s r) l) (r ∷ rs)) (length (r ∷ rs)) rows (z .size)
-            (k .sums l n) (tally-le (λ r. eqb (labelOf s r) l) (r ∷ rs)) (k .rows);
+        live = live-step s c r rs t (h .live);
+        labels = step-any t (λ (u : SideScan). u .labels ≡ s .labels) c (labelOf s r) (valueOf s c r) (h .labels) (unfold onlyCounted countRow in h .labels) (unfold scored countRow in h .labels);
+        small = step-any t (λ (u : SideScan). u .size ≤ mostRows) c (labelOf s r) (valueOf s c r) (h .small) (unfold onlyCounted countRow in h .small) (unfold scored countRow in h .small);
+        within = decide (t .closed)
+            (λ y. subst (λ (u : SideScan). u .counted ≤ u .size) (sym (step-closed t c (labelOf s r) (valueOf s c r) y)) (h .within))
+            (λ n. step-open t (λ (u : SideScan). u .counted ≤ u .size) c (labelOf s r) (valueOf s c r) n (λ _. unfold onlyCounted countRow in more n) (λ _. unfold scored countRow in more n));
       }
     where
-      to-come : (own seen rest all counted size : ℕ) → seen + rest ≡ own → rest ≤ all → counted + all ≡ size → own - seen ≤ size - counted
-      to-come own seen rest all counted size a b c = omega arith
+      more : T (not (t .closed)) → t .counted + 1 ≤ t .size
+      more n = omega (arith, h .live n .fits .rows)
 
--- ---- the start
+-- ---- both sides
 
-pub starts : (s : Sheet) (c : ℕ) (own : List ℕ) (size labels least : ℕ) (best : Best) (target : SideScan) (rest : List ℕ) → Live s rest (atStart own size labels least best)
-    → restarted (through s c rest (atStart own size labels least best)) ≡ target → 1 ≤ s .rows → Stands s c (atStart own size labels least best) target rest noRows 0 0 0 best
-unfolding pick
-starts s c own size labels least best target rest live t some =
-    let h : Open s rest (atStart own size labels least best) = live tt in
-    record {
-      counts = h .fits;
-      among = some;
-      hope = λ _. h;
-      same = λ _. t;
-      shut-at = λ k. absurd (omega (arith, k));
-    }
+module _ (s : Sheet) (marks : List ℕ) (c : ℕ) where
+  abbrev to-come : ℕ → ℕ → List ℕ
+  to-come k i = those (mine marks k) (rowsToCome s c (s .rows - i) i)
+
+  -- the rows to come, from a row of that side on
+  module _ (i : ℕ) (more : i < s .rows) (side : ℕ) (in-two : side < 2) (side-is : getD marks (rowAt s c i) 0 ≡ side) where
+    one-more : s .rows - i ≡ suc (s .rows - (i + 1))
+    one-more = omega arith
+
+    next-rows : rowsToCome s c (s .rows - i) i ≡ rowAt s c i ∷ rowsToCome s c (s .rows - (i + 1)) (i + 1)
+    unfolding rowsToCome
+    next-rows = ap (λ (n : ℕ). rowsToCome s c n i) one-more ∙ rw add-one
+
+    own-rows : to-come side i ≡ rowAt s c i ∷ to-come side (i + 1)
+    own-rows =
+        ap (those (mine marks side)) next-rows
+        ∙ those-yes (mine marks side) (rowAt s c i) (rowsToCome s c (s .rows - (i + 1)) (i + 1)) (mine-own marks (rowAt s c i) side in-two side-is)
+
+    other-rows : (k : ℕ) → k < 2 → (k ≡ side → ⊥) → to-come k i ≡ to-come k (i + 1)
+    other-rows k l n =
+        ap (those (mine marks k)) next-rows
+        ∙ those-no (mine marks k) (rowAt s c i) (rowsToCome s c (s .rows - (i + 1)) (i + 1)) (mine-other marks (rowAt s c i) k side l in-two side-is n)
+
+  module _ (target : Two) where
+    pub record Along (i : ℕ) (scan : List SideScan) (seen : List (List ℕ)) : Type 0 where
+      pub within : i ≤ s .rows
+      pub two : length scan ≡ 2
+      pub two-seen : length seen ≡ 2
+      pub same : scanRows s (goLeft marks) c (s .rows - i) i (bothAt scan seen) ≡ target
+      pub going : ended (bothAt scan seen) ≡ false
+      pub each : (k : ℕ) → k < 2 → Kept s (to-come k i) (sideAt scan seen k)
+
+    module _ (i : ℕ) (scan : List SideScan) (seen : List (List ℕ)) (h : Along i scan seen) where
+      -- no row is left
+      pub finished : s .rows ≤ i → bothAt scan seen ≡ target
+      finished n = sym nothing ∙ ap (λ (n : ℕ). scanRows s (goLeft marks) c n i (bothAt scan seen)) (sym none) ∙ h .same
+        where
+          none : s .rows - i ≡ 0
+          none = omega arith
+
+          nothing : scanRows s (goLeft marks) c 0 i (bothAt scan seen) ≡ bothAt scan seen
+          nothing = unfold scanRows in refl
+
+      module _ (more : i < s .rows) (side : ℕ) (in-two : side < 2) (side-is : getD marks (rowAt s c i) 0 ≡ side) where
+        abbrev row : ℕ
+        row = rowAt s c i
+
+        pub here : Kept s (row ∷ to-come side (i + 1)) (sideAt scan seen side)
+        here = subst (λ (rs : List ℕ). Kept s rs (sideAt scan seen side)) (own-rows i more side in-two side-is) (h .each side in-two)
+
+        -- the row's side has moved on, the other is where it was
+        pub record Moved (scan′ : List SideScan) (seen′ : List (List ℕ)) : Type 0 where
+          pub two : length scan′ ≡ 2
+          pub two-seen : length seen′ ≡ 2
+          pub at : sideAt scan′ seen′ side ≡ rowStep s c row (sideAt scan seen side)
+          pub elsewhere : (k : ℕ) → (k ≡ side → ⊥) → sideAt scan′ seen′ k ≡ sideAt scan seen k
+
+        module _ (scan′ : List SideScan) (seen′ : List (List ℕ)) (m : Moved scan′ seen′) where
+          abbrev now : Two
+          now = bothAt scan′ seen′
+
+          stepped : stepBoth s (goLeft marks) c row (bothAt scan seen) ≡ now
+          unfolding stepBoth
+          stepped =
+              by-two (λ k. side ≡ k → stepBoth s (goLeft marks) c row (bothAt scan seen) ≡ now) side in-two
+              (λ e. pick-true (goLeft marks row) _ _ (subst T (sym (left-number marks row (side-is ∙ e))) tt)
+              ∙ ap₂ (λ (l r : SideScan). record { left = l; right = r }) (sym (itself 0 e)) (sym (m .elsewhere 1 (λ k. absurd (omega (arith, e, k))))))
+              (λ e. pick-false (goLeft marks row) _ _ (subst (λ (b : Bool). T (not b)) (sym (right-number marks row (side-is ∙ e))) tt)
+              ∙ ap₂ (λ (l r : SideScan). record { left = l; right = r }) (sym (m .elsewhere 0 (λ k. absurd (omega (arith, e, k))))) (sym (itself 1 e)))
+              refl
+            where
+              itself : (k : ℕ) → side ≡ k → sideAt scan′ seen′ k ≡ rowStep s c row (sideAt scan seen k)
+              itself k e = subst (λ (k : ℕ). sideAt scan′ seen′ k ≡ rowStep s c row (sideAt scan seen k)) e (m .at)
+
+          abbrev rest : Two → Two
+          rest b = scanRows s (goLeft marks) c (s .rows - (i + 1)) (i + 1) b
+
+          -- the definition's turn at this row
+          turn : pick (ended now) now (rest now) ≡ target
+          turn = ap (λ (b : Two). pick (ended b) b (rest b)) (sym stepped) ∙ sym unrolled ∙ ap (λ (n : ℕ). scanRows s (goLeft marks) c n i (bothAt scan seen)) (sym (one-more i more side in-two side-is)) ∙ h .same
+            where
+              unrolled : scanRows s (goLeft marks) c (suc (s .rows - (i + 1))) i (bothAt scan seen)
+                  ≡ pick (ended (stepBoth s (goLeft marks) c row (bothAt scan seen))) (stepBoth s (goLeft marks) c row (bothAt scan seen)) (rest (stepBoth s (goLeft marks) c row (bothAt scan seen)))
+              unrolled = unfold scanRows in rw add-one
+
+          pub each-next : (k : ℕ) → k < 2 → Kept s (to-come k (i + 1)) (sideAt scan′ seen′ k)
+          each-next k l = decide (eqb k side) (λ t. itself k (eqb→eq k side t)) (λ t. another k l (neqb k side t))
+            where
+              itself : (k : ℕ) → k ≡ side → Kept s (to-come k (i + 1)) (sideAt scan′ seen′ k)
+              itself k e = rw (e, m .at) (kept-step s row (to-come side (i + 1)) (sideAt scan seen side) here c)
+
+              another : (k : ℕ) → k < 2 → (k ≡ side → ⊥) → Kept s (to-come k (i + 1)) (sideAt scan′ seen′ k)
+              another k l e = rw (m .elsewhere k e, ← other-rows i more side in-two side-is k l e) (h .each k l)
+
+          -- the column ends
+          pub over : ended now ≡ true → now ≡ target
+          over e = sym (pick-true (ended now) now (rest now) (subst T (sym e) tt)) ∙ turn
+
+          -- or goes on
+          pub on : ended now ≡ false → Along (i + 1) scan′ seen′
+          on e =
+              record {
+                within = omega arith;
+                two = m .two;
+                two-seen = m .two-seen;
+                same = sym (pick-false (ended now) now (rest now) (subst (λ (b : Bool). T (not b)) (sym e) tt)) ∙ turn;
+                going = e;
+                each = each-next;
+              }
+
+          -- it does if the row's side is open and its skip short
+          pub not-ended : (sideAt scan′ seen′ side .closed || idle (sideAt scan′ seen′ side)) ≡ false → ended now ≡ false
+          not-ended e =
+              by-two (λ k. (sideAt scan′ seen′ k .closed || idle (sideAt scan′ seen′ k)) ≡ false → ended now ≡ false) side in-two
+              (λ e. same-bool (ended now) false (λ t. subst T e (ended-left now t)) (λ t. absurd t))
+              (λ e. same-bool (ended now) false (λ t. subst T e (ended-right now t)) (λ t. absurd t)) e
+
+        -- a row of a closed side changes nothing
+        pub stays : sideAt scan seen side .closed ≡ true → Along (i + 1) scan seen
+        stays e =
+            on scan seen
+            (record {
+              two = h .two;
+              two-seen = h .two-seen;
+              at = sym (step-closed (sideAt scan seen side) c (labelOf s row) (valueOf s c row) (subst T (sym e) tt));
+              elsewhere = λ k n. refl;
+            }) (h .going)
+
+-- ---- from a column's start
+
+module _ (s : Sheet) (marks : List ℕ) (c : ℕ) (b : Two) (h : ReadyColumn s marks c b) (scan : List SideScan) (seen : List (List ℕ))
+    (left-is : sideAt scan seen 0 ≡ restarted (b .left)) (right-is : sideAt scan seen 1 ≡ restarted (b .right)) where
+  kept : (k : ℕ) → k < 2 → Kept s (to-come s marks c k 0) (sideAt scan seen k)
+  unfolding restarted
+  kept k l =
+      by-two (λ k. Kept s (to-come s marks c k 0) (sideAt scan seen k)) k l
+      (rw (left-is, all) (record { live = h .left-live; labels = h .left-labels; small = h .left-small; within = omega arith }))
+      (rw (right-is, all) (record { live = h .right-live; labels = h .right-labels; small = h .right-small; within = omega arith }))
+    where
+      all : s .rows - 0 ≡ s .rows
+      all = omega arith
+
+  -- the side of the first row is open, and has a row to come
+  begun : (k : ℕ) → k < 2 → getD marks (rowAt s c 0) 0 ≡ k → sideAt scan seen k .closed ≡ false → sideAt scan seen k .skip ≡ 0 → (sideAt scan seen k .closed || idle (sideAt scan seen k)) ≡ false
+  unfolding idle
+  begun k l e shut none = rw (shut, short)
+    where
+      here-kept : Kept s (rowAt s c 0 ∷ to-come s marks c k 1) (sideAt scan seen k)
+      here-kept = subst (λ (rs : List ℕ). Kept s rs (sideAt scan seen k)) (own-rows s marks c 0 (h .some) k l e) (kept k l)
+
+      short : idle (sideAt scan seen k) ≡ false
+      short =
+          unfold idle in same-bool (leb (rowsLeft (sideAt scan seen k)) (sideAt scan seen k .skip)) false
+          (λ y. absurd (omega (arith, leb→le (rowsLeft (sideAt scan seen k)) (sideAt scan seen k .skip) y, none, fits s (rowAt s c 0) (to-come s marks c k 1) (sideAt scan seen k) here-kept shut .rows)))
+          (λ y. absurd y)
+
+  pub opens : length scan ≡ 2 → length seen ≡ 2 → Along s marks c (scanRows s (goLeft marks) c (s .rows) 0 (bothAt scan seen)) 0 scan seen
+  opens two two-seen =
+      record {
+        within = omega arith;
+        two = two;
+        two-seen = two-seen;
+        same = ap (λ (n : ℕ). scanRows s (goLeft marks) c n 0 (bothAt scan seen)) all;
+        going = by-two (λ k. getD marks (rowAt s c 0) 0 ≡ k → ended (bothAt scan seen) ≡ false) (getD marks (rowAt s c 0) 0) (h .numbered (rowAt s c 0) (h .in-rows 0 (h .some)))
+            (λ e. same-bool (ended (bothAt scan seen)) false (λ t. subst T (begun 0 (omega arith) e (shut 0 (b .left) left-is) (fresh 0 (b .left) left-is)) (ended-left (bothAt scan seen) t)) (λ t. absurd t))
+            (λ e. same-bool (ended (bothAt scan seen)) false (λ t. subst T (begun 1 (omega arith) e (shut 1 (b .right) right-is) (fresh 1 (b .right) right-is)) (ended-right (bothAt scan seen) t)) (λ t. absurd t))
+            refl;
+        each = kept;
+      }
+    where
+      all : s .rows - 0 ≡ s .rows
+      all = omega arith
+
+      shut : (k : ℕ) (t : SideScan) → sideAt scan seen k ≡ restarted t → sideAt scan seen k .closed ≡ false
+      shut k t e = ap (λ (t : SideScan). t .closed) e ∙ unfold restarted in refl
+
+      fresh : (k : ℕ) (t : SideScan) → sideAt scan seen k ≡ restarted t → sideAt scan seen k .skip ≡ 0
+      fresh k t e = ap (λ (t : SideScan). t .skip) e ∙ unfold restarted in refl
+
+  -- and what its rows leave is what the column leaves
+  pub leaves : scanRows s (goLeft marks) c (s .rows) 0 (bothAt scan seen) ≡ scanColumn s (goLeft marks) c b
+  unfolding scanColumn
+  leaves = ap₂ (λ (l r : SideScan). scanRows s (goLeft marks) c (s .rows) 0 (record { left = l; right = r })) left-is right-is

@@ -15,14 +15,14 @@ use Rattle.leaves_score.specs.Kept.{rowsToCome, Alike, Live}
 use Rattle.leaves_score.proofs.Live.{left-is, right-is, live-left, live-right}
 use Rattle.leaves_score.proofs.Single.{stays, runs-at}
 
-ended-left : (b : Two) → T (ended b) → T (b .left .closed || idle (b .left))
+pub ended-left : (b : Two) → T (ended b) → T (b .left .closed || idle (b .left))
 unfolding ended
 ended-left b e =
     either (b .left .closed && b .right .closed) (idle (b .left) && idle (b .right)) e
     (λ y. or-left (b .left .closed) _ (and-left (b .left .closed) _ y))
     (λ y. or-right (b .left .closed) _ (and-left (idle (b .left)) _ y))
 
-ended-right : (b : Two) → T (ended b) → T (b .right .closed || idle (b .right))
+pub ended-right : (b : Two) → T (ended b) → T (b .right .closed || idle (b .right))
 unfolding ended
 ended-right b e =
     either (b .left .closed && b .right .closed) (idle (b .left) && idle (b .right)) e

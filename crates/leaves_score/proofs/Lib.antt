@@ -9,6 +9,3 @@ pub mod Coupled
 pub mod Places
 pub mod Rows
 pub mod Column
-pub mod Abreast
-pub mod Leveled
-pub mod Walk

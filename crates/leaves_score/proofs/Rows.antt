@@ -8,9 +8,9 @@ use mathlib.Core.List.{List, []}
 use lib.ListN.{length, getD, set, length-set, length-replicate}
 use lib.Seq.{ext-getD, getD-set-same, getD-set-other}
 use lib.Dec.{eqb}
-use Rattle.basics.specs.Choice.{pick, bit}
+use borrow.Author.Tests.{eq-eqb, ne-eqb}
+use Rattle.basics.specs.Choice.{bit}
 use Rattle.basics.specs.Lists.{tally, table}
-use Rattle.basics.proofs.Choice.{reach}
 use Rattle.basics.proofs.Lists.{tally-le, getD-table, length-table}
 use Rattle.sheet.specs.Limits.{mostLabels}
 use Rattle.sheet.specs.Sheet.{labelOf}
@@ -18,7 +18,7 @@ use Rattle.sheet.specs.Rows.{rowsAt}
 use Rattle.side_scan.specs.Counts.{noRows}
 use Rattle.side_scan.specs.OneSide.{raised}
 use Rattle.leaves_score.specs.Column.{other, labelled, ownOf}
-use Rattle.leaves_score.specs.SideLists.{sideNumber, SidesNumbered, rowsOnly}
+use Rattle.leaves_score.specs.SideLists.{rowsOnly}
 use Rattle.leaves_score.specs.Lists.{goLeft}
 use Rattle.leaves_score.proofs.Counts.{raised-at, raised-long, none-at}
 
@@ -27,6 +27,13 @@ pub by-two {ℓ} : (P : ℕ → Type ℓ) (k : ℕ) → k < 2 → P 0 → P 1 �
 by-two P zero h p q = p
 by-two P (suc zero) h p q = q
 by-two P (suc (suc k)) h p q = absurd (omega arith)
+
+-- a mark is the number of a side
+pub left-number : (marks : List ℕ) (r : ℕ) → getD marks r 0 ≡ 0 → goLeft marks r ≡ true
+left-number marks r e = eq-eqb (getD marks r 0) 0 e
+
+pub right-number : (marks : List ℕ) (r : ℕ) → getD marks r 0 ≡ 1 → goLeft marks r ≡ false
+right-number marks r e = ne-eqb (getD marks r 0) 0 (λ z. absurd (omega (arith, e, z)))
 
 -- one row more, at the end
 tally-last : (p : ℕ → Bool) (f : ℕ → ℕ) (n : ℕ) → tally p (table f (suc n)) ≡ tally p (table f n) + bit (p (f n))
@@ -107,15 +114,13 @@ module _ (codes : List ℕ) (mine : ℕ → Bool) where
 
 -- ---- both sides, their counts by number
 
-pub record Parting (codes marks : List ℕ) (rows row : ℕ) (sides : List ℕ) (counts : List (List ℕ)) (rest : ℕ) : Type 0 where
+pub record Parting (codes marks : List ℕ) (rows row : ℕ) (counts : List (List ℕ)) (rest : ℕ) : Type 0 where
   pub within : row ≤ rows
-  pub long : rows ≤ length sides
   pub two : length counts ≡ 2
   pub left : Tallied codes (goLeft marks) row (getD counts 0 []) (row - rest)
   pub right : Tallied codes (other (goLeft marks)) row (getD counts 1 []) rest
-  pub numbers : SidesNumbered row marks sides
 
-module _ (codes marks : List ℕ) (rows row : ℕ) (sides : List ℕ) (counts : List (List ℕ)) (rest : ℕ) (h : Parting codes marks rows row sides counts rest) where
+module _ (codes marks : List ℕ) (rows row : ℕ) (counts : List (List ℕ)) (rest : ℕ) (h : Parting codes marks rows row counts rest) where
   -- a label of either side counts no more rows than were met
   pub met : (side label : ℕ) → side < 2 → label < mostLabels → getD (getD counts side []) label 0 ≤ row
   met side label s l =
@@ -126,18 +131,9 @@ module _ (codes marks : List ℕ) (rows row : ℕ) (sides : List ℕ) (counts : 
   pub right-few : rest ≤ row
   right-few = size-low codes (other (goLeft marks)) row (getD counts 1 []) rest (h .right)
 
-  module _ (more : row < rows) (label side : ℕ) (el : label ≡ getD codes row 0) (es : side ≡ sideNumber marks row) where
+  module _ (more : row < rows) (label side : ℕ) (el : label ≡ getD codes row 0) (es : side ≡ getD marks row 0) (in-two : side < 2) where
     abbrev counted : List (List ℕ)
     counted = set counts side (raised (getD counts side []) label)
-
-    numbered : SidesNumbered (row + 1) marks (set sides row side)
-    numbered r k =
-        reach r row (omega arith)
-        (λ e. rw (e, getD-set-same sides row side 0 (omega (arith, h .long))) es)
-        (λ l. rw (getD-set-other sides row r side 0 (λ e. absurd (omega (arith, e)))) (h .numbers r l))
-
-    set-long : rows ≤ length (set sides row side)
-    set-long = rw (length-set sides row side) (h .long)
 
     set-two : length counted ≡ 2
     set-two = length-set counts side (raised (getD counts side []) label) ∙ h .two
@@ -150,11 +146,10 @@ module _ (codes marks : List ℕ) (rows row : ℕ) (sides : List ℕ) (counts : 
     kept-other : (k : ℕ) → (k ≡ side → ⊥) → getD counted k [] ≡ getD counts k []
     kept-other k n = getD-set-other counts side k (raised (getD counts side []) label) [] n
 
-    to-left : goLeft marks row ≡ true → Parting codes marks rows (row + 1) (set sides row side) counted (rest + side)
-    to-left m =
+    to-left : side ≡ 0 → Parting codes marks rows (row + 1) counted (rest + side)
+    to-left zeroth =
         record {
           within = omega arith;
-          long = set-long;
           two = set-two;
           left =
               rw (raised-own 0 zeroth (omega arith), more-left)
@@ -162,11 +157,10 @@ module _ (codes marks : List ℕ) (rows row : ℕ) (sides : List ℕ) (counts : 
           right =
               rw (kept-other 1 (λ e. absurd (omega (arith, e, zeroth))), same-right)
               (none-more codes (other (goLeft marks)) row (getD counts 1 []) rest (ap not m) (h .right));
-          numbers = numbered;
         }
       where
-        zeroth : side ≡ 0
-        zeroth = unfold pick in es ∙ ap (λ (b : Bool). pick b 0 1) m
+        m : goLeft marks row ≡ true
+        m = left-number marks row (sym es ∙ zeroth)
 
         more-left : row + 1 - (rest + side) ≡ row - rest + 1
         more-left = omega (arith, zeroth, right-few)
@@ -174,11 +168,10 @@ module _ (codes marks : List ℕ) (rows row : ℕ) (sides : List ℕ) (counts : 
         same-right : rest + side ≡ rest
         same-right = omega (arith, zeroth)
 
-    to-right : goLeft marks row ≡ false → Parting codes marks rows (row + 1) (set sides row side) counted (rest + side)
-    to-right m =
+    to-right : side ≡ 1 → Parting codes marks rows (row + 1) counted (rest + side)
+    to-right first =
         record {
           within = omega arith;
-          long = set-long;
           two = set-two;
           left =
               rw (kept-other 0 (λ e. absurd (omega (arith, e, first))), same-left)
@@ -186,11 +179,10 @@ module _ (codes marks : List ℕ) (rows row : ℕ) (sides : List ℕ) (counts : 
           right =
               rw (raised-own 1 first (omega arith), more-right)
               (one-more codes (other (goLeft marks)) row (getD counts 1 []) rest label (ap not m) el (h .right));
-          numbers = numbered;
         }
       where
-        first : side ≡ 1
-        first = unfold pick in es ∙ ap (λ (b : Bool). pick b 0 1) m
+        m : goLeft marks row ≡ false
+        m = right-number marks row (sym es ∙ first)
 
         same-left : row + 1 - (rest + side) ≡ row - rest
         same-left = omega (arith, first, right-few)
@@ -198,10 +190,5 @@ module _ (codes marks : List ℕ) (rows row : ℕ) (sides : List ℕ) (counts : 
         more-right : rest + side ≡ rest + 1
         more-right = omega (arith, first)
 
-    pub parts-on : Parting codes marks rows (row + 1) (set sides row side) counted (rest + side)
-    parts-on = by-bool (goLeft marks row) to-left to-right
-      where
-        by-bool : (b : Bool) → (b ≡ true → Parting codes marks rows (row + 1) (set sides row side) counted (rest + side))
-            → (b ≡ false → Parting codes marks rows (row + 1) (set sides row side) counted (rest + side)) → Parting codes marks rows (row + 1) (set sides row side) counted (rest + side)
-        by-bool true f g = f refl
-        by-bool false f g = g refl
+    pub parts-on : Parting codes marks rows (row + 1) counted (rest + side)
+    parts-on = by-two (λ k. side ≡ k → Parting codes marks rows (row + 1) counted (rest + side)) side in-two to-left to-right refl

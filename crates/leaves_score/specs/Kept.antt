@@ -10,7 +10,6 @@ use Rattle.sheet.specs.Limits.{mostLabels}
 use Rattle.sheet.specs.Sheet.{Sheet, labelOf, rowAt, leastRows}
 use Rattle.sheet.specs.Rows.{rowsAt}
 use Rattle.side_scan.specs.declared.SideScan.{SideScan}
-use Rattle.leaves_score.specs.declared.two_sides.Two.{Two}
 use Rattle.side_scan.specs.OneSide.{restarted, totalOf}
 use Rattle.leaves_score.specs.Column.{ownOf}
 
@@ -22,10 +21,6 @@ rowsToCome s c (suc n) i = rowAt s c i ∷ rowsToCome s c n (suc i)
 -- what crosses from a column to the next is the same: all but the counts, skip, closed mark and previous value
 abbrev pub Alike : SideScan → SideScan → Type 0
 Alike a b = restarted a ≡ restarted b
-
-pub record BothAlike (a b : Two) : Type 0 where
-  pub left : Alike (a .left) (b .left)
-  pub right : Alike (a .right) (b .right)
 
 -- a side's own numbers are those of its rows
 pub record OwnNumbers (s : Sheet) (support : ℕ) (mine : ℕ → Bool) (own : List ℕ) (size labels least : ℕ) : Type 0 where

@@ -25,12 +25,13 @@ abbrev pub scanOf : Sheet → Sheet
 scanOf s =
     record { rows = s .rows; columns = s .columns; labels = s .labels; values = s .values; codes = s .codes; order = s .order; cuts = []; counts = [] }
 
--- the lists are long enough: one order entry and value to a row and column, one code and mark to a row
+-- the lists are long enough: one order entry and value to a row and column, one code and mark to a row; and a mark is 0 or 1
 pub record Lent (s : Sheet) (marks : List ℕ) : Type 0 where
   pub ordered : s .columns * s .rows ≤ length (s .order)
   pub valued : s .columns * s .rows ≤ length (s .values)
   pub coded : s .rows ≤ length (s .codes)
   pub marked : s .rows ≤ length marks
+  pub numbered : (r : ℕ) → r < s .rows → getD marks r 0 < 2
 
 -- an accepted sheet has it (`Sound`), whatever its cuts
 pub record Scannable (s : Sheet) (marks : List ℕ) : Type 0 where

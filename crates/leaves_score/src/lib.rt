@@ -1,50 +1,22 @@
 // The scan of the two sides of a root split: the best single question for each side, in one pass over each column.
-mod few_rows;
-mod many_rows;
+mod column_scan;
 pub mod two_sides;
 
 ghost use mathlib.Core.Path.{_≡_};
 ghost use Rattle.sheet.specs.Sheet.{leastRows};
-ghost use Rattle.leaves_score.specs.Column.{scanColumn};
-ghost use Rattle.leaves_score.specs.Kept.{BothAlike};
-ghost use Rattle.leaves_score.specs.SideLists.{ReadyColumn};
 ghost use Rattle.leaves_score.specs.Scan.{perfect, scanned, sidesOf};
 ghost use Rattle.leaves_score.specs.Lists.{Scannable, scanSheet, goLeft};
 ghost use Rattle.basics.specs.Lent.{before};
-use crate::few_rows::scan_few;
-use crate::many_rows::scan_many;
+use crate::column_scan::scan_column;
 use crate::two_sides::Two;
 use crate::two_sides::part_rows;
-use sheet::MOST_ROWS;
 use sheet::Size;
 use tree::Side;
-
-// On a sheet of at most so many rows a column is walked record by record; on more, copying the records costs more than their rows.
-const FEW_ROWS: usize = 4;
 
 // The two sides of a root split.
 pub struct Sides {
     pub left: Side,
     pub right: Side,
-}
-
-// One column, the records of both sides by value.
-fn scan_column(
-    both: Two,
-    size: Size,
-    column: usize,
-    values: &[f64],
-    codes: &[u8],
-    order: &[u16],
-    sides: &[u8; MOST_ROWS],
-) -> Two
-    requires { ⌜ ReadyColumn (scanSheet size (now values) (now codes) (now order)) (now sides) column both ⌝ }
-    ensures { λ r. ⌜ BothAlike r (scanColumn (scanSheet size (before values) (before codes) (before order)) (goLeft (before sides)) column both) ⌝ }
-{
-    if size.rows <= FEW_ROWS {
-        return scan_few(both, size, column, values, codes, order, sides);
-    }
-    scan_many(both, size, column, values, codes, order, sides)
 }
 
 fn least_rows(support: u32) -> u32
@@ -76,10 +48,9 @@ fn scan_columns(
     marks: &[u32],
 ) -> Two
     requires { ⌜ Scannable (scanSheet size (now values) (now codes) (now order)) (now marks) ⌝ }
-    ensures { λ r. ⌜ BothAlike r (scanned (scanSheet size (before values) (before codes) (before order)) support (goLeft (before marks))) ⌝ }
+    ensures { λ r. ⌜ r ≡ scanned (scanSheet size (before values) (before codes) (before order)) support (goLeft (before marks)) ⌝ }
 {
-    let mut numbers: [u8; MOST_ROWS] = [0; MOST_ROWS];
-    let parted = part_rows(size.rows, codes, marks, &mut numbers);
+    let parted = part_rows(size.rows, codes, marks);
     let least = least_rows(support);
     let own = parted.own;
     let other = parted.other;
@@ -88,7 +59,7 @@ fn scan_columns(
     let mut both = Two { left, right };
     let mut column: usize = 0;
     while column < size.columns {
-        both = scan_column(both, size, column, values, codes, order, &numbers);
+        both = scan_column(both, size, column, values, codes, order, marks);
         column += 1;
         if is_perfect(both) {
             break;

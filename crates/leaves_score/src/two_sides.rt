@@ -1,18 +1,15 @@
 // The two sides of a root split: which rows are whose.
 ghost use mathlib.Core.Path.{_≡_};
-ghost use Prim.Native.Nat.{_≤_, _<_};
-ghost use lib.Dec.{eqb};
-ghost use lib.ListN.{length};
-ghost use Rattle.basics.specs.Choice.{pick};
+ghost use Prim.Native.Nat.{_≤_};
 ghost use Rattle.sheet.specs.Limits.{mostRows};
-ghost use Rattle.leaves_score.specs.SideLists.{ReadyRows, PartedTo};
-ghost use Rattle.basics.specs.Lent.{before, after};
+ghost use Rattle.leaves_score.specs.SideLists.{ReadyRows, partedOf};
+ghost use Rattle.basics.specs.Lent.{before};
 use basics::wide_byte;
+use basics::wide_word;
 use sheet::MOST_LABELS;
-use sheet::MOST_ROWS;
 use side_scan::SideScan;
 
-// The left side is number 0, the right side number 1.
+// The left side is number 0, the right side number 1: a row's mark is the number of its side.
 pub(crate) const SIDES: usize = 2;
 
 // The scans of the two sides, which go through a column together.
@@ -29,27 +26,6 @@ pub struct Parted {
     pub rest: u32,
 }
 
-// The number of the side that a mark sends a row to.
-fn marked_side(mark: u32) -> usize
-    ensures { λ r. ⌜ r ≡ pick (eqb mark 0) 0 1 ⌝ }
-{
-    if mark == 0 { 0 } else { 1 }
-}
-
-fn side_byte(side: usize) -> u8
-    requires { ⌜ side < 2 ⌝ }
-    ensures { λ r. ⌜ r ≡ side ⌝ }
-{
-    side as u8
-}
-
-fn side_count(side: usize) -> u32
-    requires { ⌜ side < 2 ⌝ }
-    ensures { λ r. ⌜ r ≡ side ⌝ }
-{
-    side as u32
-}
-
 fn row_count(rows: usize) -> u32
     requires { ⌜ rows ≤ mostRows ⌝ }
     ensures { λ r. ⌜ r ≡ rows ⌝ }
@@ -57,25 +33,19 @@ fn row_count(rows: usize) -> u32
     rows as u32
 }
 
-// How many rows of each label go to each side, and how many in all; and each row's side as a number.
-pub(crate) fn part_rows(
-    rows: usize,
-    codes: &[u8],
-    marks: &[u32],
-    sides: &mut [u8; MOST_ROWS],
-) -> Parted
-    requires { ⌜ ReadyRows rows (now codes) (now marks) × (rows ≤ length (now sides)) ⌝ }
-    ensures { λ r. ⌜ PartedTo rows (before codes) (before marks) r (after sides) ⌝ }
+// How many rows of each label go to each side, and how many in all.
+pub(crate) fn part_rows(rows: usize, codes: &[u8], marks: &[u32]) -> Parted
+    requires { ⌜ ReadyRows rows (now codes) (now marks) ⌝ }
+    ensures { λ r. ⌜ r ≡ partedOf rows (before codes) (before marks) ⌝ }
 {
     let mut counts: [[u16; MOST_LABELS]; SIDES] = [[0; MOST_LABELS]; SIDES];
     let mut rest: u32 = 0;
     let mut row: usize = 0;
     while row < rows {
         let label = wide_byte(codes[row]);
-        let side = marked_side(marks[row]);
+        let side = wide_word(marks[row]);
         counts[side][label] = counts[side][label] + 1;
-        sides[row] = side_byte(side);
-        rest += side_count(side);
+        rest += marks[row];
         row += 1;
     }
     let own = counts[0];

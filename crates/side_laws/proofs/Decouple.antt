@@ -11,19 +11,27 @@ use Rattle.sheet.specs.Sheet.{Sheet, orderOf}
 use Rattle.sheet.specs.Sound.{Sound}
 use Rattle.side_scan.specs.declared.SideScan.{SideScan}
 use Rattle.leaves_score.specs.declared.two_sides.Two.{Two}
-use Rattle.side_scan.specs.OneSide.{restarted}
+use Rattle.side_scan.specs.OneSide.{restarted, leafLabel, leafScore, sideOf}
 use Rattle.leaves_score.specs.Column.{other, sideAtStart, scanRows, scanColumn, through}
 use Rattle.leaves_score.specs.Scan.{perfect, scanColumns, startBoth, scanned, sidesOf}
 use Rattle.leaves_score.specs.Kept.{Alike, Owns, Live}
 use Rattle.leaves_score.proofs.Single.{perfected, owns-through}
 use Rattle.leaves_score.proofs.Coupled.{both-rows}
-use Rattle.leaves_score.proofs.Columns.{side-alike, owns-alike}
 use Rattle.leaves_score.proofs.Live.{owns-start, owns-cleared, rows-order, start-live}
 use Rattle.side_laws.specs.Alone.{columnAlone, columnsAlone, alone, sideAlone, Decoupled, Decouples}
 
 twice : (t : SideScan) → restarted (restarted t) ≡ restarted t
 unfolding restarted
 twice t = refl
+
+-- sides that cross alike answer alike, and have the same rows
+side-alike : (a b : SideScan) → Alike a b → sideOf a ≡ sideOf b
+unfolding sideOf restarted leafLabel leafScore
+side-alike a b e = ap sideOf e
+
+owns-alike : (s : Sheet) (support : ℕ) (mine : ℕ → Bool) (a b : SideScan) → Alike a b → Owns s support mine b → Owns s support mine a
+unfolding restarted
+owns-alike s support mine a b e o = subst (Owns s support mine) (sym e) o
 
 -- ---- the columns
 

@@ -9,9 +9,9 @@ use lib.ListN.{length, getD}
 use lib.Dec.{T, not-T, leb, ltb, eqb, leb→le, le→leb, eqb→eq, eqb-refl}
 use lib.Ieee.{Float}
 use Rattle.basics.specs.Choice.{pick, bit}
-use Rattle.basics.specs.Lists.{tally, table}
-use Rattle.basics.proofs.Choice.{decide, order, bit-true, bit-false, bit-le}
-use Rattle.basics.proofs.Lists.{all-at, all-map, tally-none, tally-parts, getD-table, length-table}
+use Rattle.basics.specs.Lists.{tally}
+use Rattle.basics.proofs.Choice.{order, bit-true, bit-le}
+use Rattle.basics.proofs.Lists.{all-at, all-map, table-has, table-find, tally-none, tally-parts, getD-table, length-table}
 use Rattle.threshold.specs.Order.{key, comparable}
 use Rattle.sheet.specs.Sheet.{Sheet, labelOf, rowAt, valueAt, countOf, placeOf, everyRow, orderOf}
 use Rattle.sheet.specs.Sound.{Sound}
@@ -54,17 +54,6 @@ past f t (x ∷ xs) (suc i) h k g =
     (λ l. omega (arith, all-at (λ y. f x ≤ f y) xs i (h .0) (omega arith)))
 
 -- ---- every row has a place
-
-table-has : (p : ℕ → Bool) (g : ℕ → ℕ) (n i : ℕ) → i < n → T (p (g i)) → 1 ≤ tally p (table g n)
-table-has p g zero i h y = absurd (omega arith)
-table-has p g (suc n) zero h y = omega (arith, bit-true (p (g 0)) y)
-table-has p g (suc n) (suc i) h y = omega (arith, table-has p (λ k. g (suc k)) n i (omega arith) y)
-
-table-find : (p : ℕ → Bool) (g : ℕ → ℕ) (n : ℕ) → 1 ≤ tally p (table g n) → (i : ℕ) × (i < n) × T (p (g i))
-table-find p g zero h = absurd (omega arith)
-table-find p g (suc n) h =
-    decide (p (g 0)) (λ y. (0, omega arith, y))
-    (λ m. let z = table-find p (λ k. g (suc k)) n (omega (arith, bit-false (p (g 0)) m)) in (suc (z .0), omega (arith, z .1), z .2))
 
 module _ (s : Sheet) (sound : Sound s) (c : ℕ) (here : c < s .columns) where
   pub place-of : (r : ℕ) → r < s .rows → (i : ℕ) × (i < s .rows) × (rowAt s c i ≡ r)

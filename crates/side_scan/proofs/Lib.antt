@@ -4,4 +4,3 @@ pub mod Commonest
 pub mod Running
 pub mod LeafLabel
 pub mod Judged
-pub mod Scored

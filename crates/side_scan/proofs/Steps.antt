@@ -1,6 +1,6 @@
 -- What the calls of a row's step say, put together: the row is only counted, or its cut is judged and split first. Assumes nothing.
-use Prim.Native.Nat.{ℕ}
-use mathlib.Core.Path.{_≡_, sym, ap, _∙_}
+use Prim.Native.Nat.{ℕ, _≤_}
+use mathlib.Core.Path.{_≡_, sym, ap, subst, _∙_}
 use mathlib.Core.Bool.{Bool, true, false}
 use lib.Ieee.{Float}
 use Rattle.basics.specs.Choice.{pick}
@@ -9,9 +9,10 @@ use Rattle.side_scan.specs.declared.SideScan.{SideScan}
 use Rattle.side_scan.specs.declared.best_counts.Peaks.{Peaks}
 use Rattle.side_scan.specs.declared.cut_score.CutVerdict.{CutVerdict}
 use Rattle.side_scan.specs.Scored.{fallen, quietBy, verdictOf, splitBy}
-use Rattle.side_scan.specs.Passing.{Scorable}
-use Rattle.side_scan.specs.OneSide.{quiet, rowsLeft, peaksAt, verdictAt, splitAt, bestAfter, countRow, onlyCounted, scored, stepOf}
+use Rattle.side_scan.specs.Counts.{Countable, peaksOf}
+use Rattle.side_scan.specs.OneSide.{quiet, countedOf, later, rowsLeft, peaksAt, verdictAt, splitAt, bestAfter, countRow, onlyCounted, scored, stepOf}
 use Rattle.side_scan.specs.Step.{Ready}
+use Rattle.side_scan.proofs.Commonest.{most-under}
 
 -- the row counted, with the rest as it is
 abbrev pub counting : ℕ → Float → SideScan → SideScan
@@ -19,15 +20,17 @@ counting label value t = countRow t (t .best) (t .skip) (t .closed) label value
 
 -- ---- what a cut asks
 
-pub scorable : (t : SideScan) (label : ℕ) → Ready t label → Scorable (t .own) (t .seen) (t .labels) (t .counted) (t .size)
-scorable t label r =
-    record {
-      countable = record { some = r .some; few = r .few; within = r .own };
-      more = r .more;
-      small = r .small;
-      seen = r .seen;
-      left = r .left;
-    }
+module _ (t : SideScan) (label : ℕ) (r : Ready t label) where
+  pub countable : Countable (t .own) (t .seen) (t .labels)
+  countable = record { some = r .some; few = r .few; within = r .own }
+
+  -- no label has more rows than there are before the cut, or from it on
+  pub peaks-in : (p : Peaks) → p ≡ peaksAt t → (p .before ≤ t .counted) × (p .after ≤ rowsLeft t)
+  unfolding peaksOf
+  peaks-in p e = (
+    subst (λ (p : Peaks). p .before ≤ t .counted) (sym e) (most-under (countedOf t) (t .labels) (t .counted) (r .some) (r .seen)),
+    subst (λ (p : Peaks). p .after ≤ rowsLeft t) (sym e) (most-under (later t) (t .labels) (rowsLeft t) (r .some) (r .left)),
+  )
 
 -- ---- the two ways of a row of an open side
 

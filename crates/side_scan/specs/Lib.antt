@@ -3,4 +3,3 @@ pub mod Step
 pub mod Commonest
 pub mod Counts
 pub mod Scored
-pub mod Passing

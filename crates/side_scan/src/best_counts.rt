@@ -28,7 +28,11 @@ fn signed(count: u16) -> i32
 }
 
 // Both running maxima begin at -1, so that the first label is taken even where it has no rows.
-pub fn find_peaks(own: &[u16; MOST_LABELS], seen: &[u16; MOST_LABELS], labels: usize) -> Peaks
+pub(crate) fn find_peaks(
+    own: &[u16; MOST_LABELS],
+    seen: &[u16; MOST_LABELS],
+    labels: usize,
+) -> Peaks
     requires { ⌜ Countable (now own) (now seen) labels ⌝ }
     ensures { λ r. ⌜ r ≡ peaksOf (before own) (before seen) labels ⌝ }
 {

@@ -16,20 +16,6 @@ pub struct Best {
     pub right: Leaf,
 }
 
-// A side's share of the sheet: how many rows it has, how many rows each part of a split must have, and how many labels the sheet has.
-pub struct Share {
-    pub size: u32,
-    pub least: u32,
-    pub labels: usize,
-}
-
-// How far a side has come in a column: the rows counted, the count up to which its rows are skipped, and the last row counted.
-pub struct Counting {
-    pub counted: u32,
-    pub until: u32,
-    pub last: usize,
-}
-
 // What a scored cut comes to: whether its split is taken, its total, the new skip, and whether the side closes.
 pub struct CutVerdict {
     pub taken: bool,
@@ -38,28 +24,21 @@ pub struct CutVerdict {
     pub closed: bool,
 }
 
-// A scored cut: the best counts about it, whether its split is taken, and the count up to which the side's rows are skipped.
-pub struct Cut {
-    pub peaks: Peaks,
-    pub taken: bool,
-    pub until: u32,
-}
-
-pub(crate) fn fall(skip: u32) -> u32
+pub fn fall(skip: u32) -> u32
     ensures { λ r. ⌜ r ≡ fallen skip ⌝ }
 {
     if skip == 0 { 0 } else { skip - 1 }
 }
 
 // A side's first row has no previous value.
-pub fn is_same(started: bool, previous: f64, value: f64) -> bool
+fn is_same(started: bool, previous: f64, value: f64) -> bool
     ensures { λ r. ⌜ r ≡ repeated started previous value ⌝ }
 {
     if started { previous == value } else { false }
 }
 
 // So the cut before a side's first row is scored.
-pub(crate) fn is_quiet(started: bool, previous: f64, value: f64, skip: u32) -> bool
+pub fn is_quiet(started: bool, previous: f64, value: f64, skip: u32) -> bool
     ensures { λ r. ⌜ r ≡ quietBy started previous value skip ⌝ }
 {
     if is_same(started, previous, value) {
@@ -90,7 +69,7 @@ fn is_closed(after: u32, rest: u32, skip: u32) -> bool
 }
 
 // The cut before a row, judged by numbers alone: `rest` counts the rows from it on, `skip` has fallen already.
-pub fn judge_cut(
+pub(crate) fn judge_cut(
     peaks: Peaks,
     counted: u32,
     rest: u32,
@@ -122,7 +101,7 @@ pub fn judge_cut(
 }
 
 // The split of a cut.
-pub fn split_of(
+pub(crate) fn split_of(
     peaks: Peaks,
     counted: u32,
     rest: u32,

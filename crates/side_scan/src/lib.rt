@@ -13,6 +13,7 @@ use crate::best_counts::find_peaks;
 use crate::cut_score::Best;
 use crate::cut_score::fall;
 use crate::cut_score::is_quiet;
+use crate::cut_score::judge_cut;
 use crate::cut_score::split_of;
 use sheet::MOST_LABELS;
 use tree::Leaf;
@@ -36,7 +37,7 @@ pub struct SideScan {
     pub previous: f64,
 }
 
-// One row of a side, the whole record by value.
+// One row of a side, the whole record by value. The counts with the row are made before its cut is scored, so that they are ready when the record is stored.
 fn step(mut side: SideScan, column: usize, label: usize, value: f64) -> SideScan
     requires { ⌜ Steppable side label ⌝ }
     ensures { λ r. ⌜ r ≡ stepOf side column label value ⌝ }
@@ -45,7 +46,9 @@ fn step(mut side: SideScan, column: usize, label: usize, value: f64) -> SideScan
         return side;
     }
     let own = side.own;
-    let mut seen = side.seen;
+    let seen = side.seen;
+    let mut with = seen;
+    with[label] = with[label] + 1;
     let counted = side.counted;
     let skip = fall(side.skip);
     if is_quiet(side.started, side.previous, value, skip) {
@@ -55,14 +58,7 @@ fn step(mut side: SideScan, column: usize, label: usize, value: f64) -> SideScan
         let rest = side.size - counted;
         let was = side.best;
         let peaks = find_peaks(&own, &seen, side.labels);
-        let verdict = crate::cut_score::judge_cut(
-            peaks,
-            counted,
-            rest,
-            side.least,
-            was.score,
-            skip,
-        );
+        let verdict = judge_cut(peaks, counted, rest, side.least, was.score, skip);
         if verdict.taken {
             let best = split_of(peaks, counted, rest, column, previous, value);
             side.best = best;
@@ -70,8 +66,7 @@ fn step(mut side: SideScan, column: usize, label: usize, value: f64) -> SideScan
         side.skip = verdict.skip;
         side.closed = verdict.closed;
     }
-    seen[label] = seen[label] + 1;
-    side.seen = seen;
+    side.seen = with;
     side.counted = counted + 1;
     side.started = true;
     side.previous = value;

@@ -1,6 +1,6 @@
 -- `leaves_score::scan_columns` meets its contract: the loop keeps `Scanning` (`Columns.antt`). Assumes nothing.
 use Prim.Native.Nat.{ℕ, _-_, _<_}
-use mathlib.Core.Path.{_≡_, refl, sym, ap, subst, _∙_}
+use mathlib.Core.Path.{_≡_, refl, sym, ap, _∙_}
 use mathlib.Core.Bool.{Bool}
 use mathlib.Core.List.{List}
 use native.Mathlib.Omega.{arith}
@@ -13,13 +13,11 @@ use Rattle.sheet.specs.declared.Size.{Size}
 use Rattle.sheet.specs.Rows.{rowsAt}
 use Rattle.leaves_score.specs.declared.two_sides.Parted.{Parted}
 use Rattle.leaves_score.specs.Column.{other, labelled, ownOf, sideAtStart}
-use Rattle.leaves_score.specs.Scan.{startBoth, scanned}
-use Rattle.leaves_score.specs.Kept.{BothAlike}
+use Rattle.leaves_score.specs.Scan.{startBoth}
 use Rattle.side_scan.specs.Step.{leafScan}
-use Rattle.leaves_score.specs.SideLists.{SidesNumbered, rowsOnly, partedOf, ReadyColumn, ReadyRows}
+use Rattle.leaves_score.specs.SideLists.{rowsOnly, partedOf, ReadyColumn, ReadyRows}
 use Rattle.leaves_score.specs.Lists.{Scannable, scanSheet, goLeft}
-use Rattle.leaves_score.proofs.Marks.{starts-alike, scanned-alike}
-use Rattle.leaves_score.proofs.Columns.{Scanning, begins, finished, stops, goes-on, ready-column, same-side}
+use Rattle.leaves_score.proofs.Columns.{Scanning, begins, finished, stops, goes-on, ready-column}
 use Rattle.leaves_score.proofs.scan_columns.Statement.{statement}
 use Rattle.leaves_score.proofs.scan_columns.Tie as tie
 
@@ -55,27 +53,25 @@ rows-ready s marks h =
       coded = h .lent .coded;
       marked = h .lent .marked;
       labelled = λ r k. omega (arith, unlabelled r k, h .limited .labels-most);
+      numbered = h .lent .numbered;
     }
   where
     unlabelled : (r : ℕ) → r < s .rows → getD (s .codes) r 0 < s .labels
     unlabelled r k = unfold labelOf in h .labelled r k
 
 abbrev Inv-loop : tie.InvT-loop
-Inv-loop size support values codes order marks numbers least both₀ column₀ both column =
-    Scanning (scanSheet size values codes order) support (goLeft numbers) column both
+Inv-loop size support values codes order marks least both₀ column₀ both column = Scanning (scanSheet size values codes order) support (goLeft marks) column both
 
 abbrev μ-loop : tie.MeasureT-loop
-μ-loop size support values codes order marks numbers least both₀ column₀ both column = size .columns - column
+μ-loop size support values codes order marks least both₀ column₀ both column = size .columns - column
 
 part-rows-requires : tie.Need-part-rows-requires Inv-loop μ-loop
-part-rows-requires c κs =
-    let p = c .before .before .before .before .before in
-    (rows-ready _ _ (p .pre), p .pre .limited .rows-most)
+part-rows-requires c κs = rows-ready _ _ (c .before .before .before .before .pre)
 
--- the rows' sides as numbers, after they are parted
+-- after the rows are parted
 module _ (c : tie.After-part-rows Inv-loop μ-loop) where
   abbrev start : tie.Start Inv-loop μ-loop
-  start = c .before .before .before .before .before .before
+  start = c .before .before .before .before .before
 
   abbrev sheet : Sheet
   sheet = scanSheet (start .args .size) (start .args .values .now) (start .args .codes .now) (start .args .order .now)
@@ -83,27 +79,14 @@ module _ (c : tie.After-part-rows Inv-loop μ-loop) where
   abbrev marks : List ℕ
   marks = start .args .marks .now
 
-  abbrev sides : List ℕ
-  sides = c .part-rows .last .1 .1 .1 .0
-
-  numbered : SidesNumbered (start .args .size .rows) marks sides
-  numbered = c .part-rows .ensures .1
-
-  alike : (r : ℕ) → r < start .args .size .rows → goLeft sides r ≡ goLeft marks r
-  alike = same-side sheet (start .args .support) marks sides (start .pre) numbered
-
-  scanned-same : scanned sheet (start .args .support) (goLeft sides) ≡ scanned sheet (start .args .support) (goLeft marks)
-  scanned-same = scanned-alike sheet (goLeft sides) (goLeft marks) (start .pre .in-rows) alike (start .args .support)
-
 loop-holds : tie.Need-loop-holds Inv-loop μ-loop
 loop-holds c =
     let q = c .before .before .before .before .before in
     let a = start q .args in
     let n = c .before .before .before .before in
-    begins (sheet q) (a .support) (goLeft (sides q)) (record { left = c .before .begin .result; right = c .begin2 .result })
+    begins (sheet q) (a .support) (goLeft (marks q)) (record { left = c .before .begin .result; right = c .begin2 .result })
     (begun (a .size) (a .values .now) (a .codes .now) (a .order .now) (a .marks .now) (a .support) (q .part-rows .result) (n .least-rows .result) (c .before .begin .result) (c .begin2 .result)
-    (q .part-rows .ensures .0) (n .least-rows .ensures) (c .before .begin .ensures) (c .begin2 .ensures)
-    ∙ sym (starts-alike (sheet q) (goLeft (sides q)) (goLeft (marks q)) (start q .pre .in-rows) (alike q) (a .support)))
+    (q .part-rows .ensures) (n .least-rows .ensures) (c .before .begin .ensures) (c .begin2 .ensures))
 
 -- at a column
 module _ (c : tie.Then1 Inv-loop μ-loop) where
@@ -113,37 +96,33 @@ module _ (c : tie.Then1 Inv-loop μ-loop) where
   abbrev parted : tie.After-part-rows Inv-loop μ-loop
   parted = head .before .before .before .before .before .before
 
-  ready : ReadyColumn (sheet parted) (sides parted) (head .loop .column) (head .loop .both)
-  ready =
-      ready-column (sheet parted) (start parted .args .support) (marks parted) (sides parted) (start parted .pre) (numbered parted) (head .loop .column) (head .loop .both) (c .if1 .taken)
-      (head .loop .inv .both)
+  ready : ReadyColumn (sheet parted) (marks parted) (head .loop .column) (head .loop .both)
+  ready = ready-column (sheet parted) (start parted .args .support) (marks parted) (start parted .pre) (head .loop .column) (head .loop .both) (c .if1 .taken) (head .loop .inv .both)
 
 scan-column-requires : tie.Need-scan-column-requires Inv-loop μ-loop
-scan-column-requires c κs = ready (c .before)
+scan-column-requires c κs = ready c
 
 loop-again : tie.Need-loop-again Inv-loop μ-loop
 loop-again c =
     let d = c .before .before in
-    let t = d .before .before in
+    let t = d .before in
     let q = parted t in
-    goes-on (sheet q) (start q .args .support) (goLeft (sides q)) (head t .loop .column) (head t .loop .both) (head t .loop .inv) (t .if1 .taken) (d .scan-column .result) (d .scan-column .ensures)
+    goes-on (sheet q) (start q .args .support) (goLeft (marks q)) (head t .loop .column) (head t .loop .both) (head t .loop .inv) (t .if1 .taken) (d .scan-column .result) (d .scan-column .ensures)
     (sym (c .before .is-perfect .ensures) ∙ c .if2 .left)
 
 returns : tie.Need-returns Inv-loop μ-loop
 returns c =
     let h = c .before .before in
     let q = h .before .before .before .before .before .before in
-    subst (BothAlike (h .loop .both)) (scanned-same q)
-    (finished (sheet q) (start q .args .support) (goLeft (sides q)) (h .loop .column) (h .loop .both) (h .loop .inv) (c .if1 .left))
+    finished (sheet q) (start q .args .support) (goLeft (marks q)) (h .loop .column) (h .loop .both) (h .loop .inv) (c .if1 .left)
 
 returns-2 : tie.Need-returns-2 Inv-loop μ-loop
 returns-2 c =
     let d = c .before .before in
-    let t = d .before .before in
+    let t = d .before in
     let q = parted t in
-    subst (BothAlike (d .scan-column .result)) (scanned-same q)
-    (stops (sheet q) (start q .args .support) (goLeft (sides q)) (head t .loop .column) (head t .loop .both) (head t .loop .inv) (t .if1 .taken) (d .scan-column .result) (d .scan-column .ensures)
-    (sym (c .before .is-perfect .ensures) ∙ c .if2 .taken))
+    stops (sheet q) (start q .args .support) (goLeft (marks q)) (head t .loop .column) (head t .loop .both) (head t .loop .inv) (t .if1 .taken) (d .scan-column .result) (d .scan-column .ensures)
+    (sym (c .before .is-perfect .ensures) ∙ c .if2 .taken)
 
 pub scan-columns-spec : {M : Type 1} → statement M
 scan-columns-spec =

@@ -11,10 +11,8 @@ use lib.Ieee.{Float}
 use Rattle.basics.specs.Choice.{pick}
 use Rattle.side_scan.specs.declared.SideScan.{SideScan}
 use Rattle.side_scan.specs.OneSide.{rowsLeft, countRow, raised, stepOf}
-use Rattle.side_scan.specs.Passing.{Scorable}
 use Rattle.side_scan.specs.Step.{Ready}
-use Rattle.side_scan.proofs.Scored.{first-in, second-in}
-use Rattle.side_scan.proofs.Steps.{counting, scorable, stays-closed, only, cuts}
+use Rattle.side_scan.proofs.Steps.{counting, countable, peaks-in, stays-closed, only, cuts}
 use Rattle.side_scan.proofs.step.Statement.{statement}
 use Rattle.side_scan.proofs.step.Tie as tie
 
@@ -22,6 +20,28 @@ returns : tie.Need-returns
 returns c =
     let a = c .before .args in
     stays-closed (a .side) (a .column) (a .label) (a .value) (c .if1 .taken)
+
+-- the counts with the row
+module _ (c : tie.After-seen) where
+  open-at : Ready (c .before .before .before .args .side) (c .before .before .before .args .label)
+  open-at = c .before .before .before .pre (c .before .before .if1 .left)
+
+mul-with : tie.Need-mul-with
+mul-with c = record { fits = omega (arith, open-at c .coded, open-at c .few) }
+
+array-read-with : tie.Need-array-read-with
+array-read-with c = omega (arith, open-at c .coded, open-at c .few)
+
+add-with : tie.Need-add-with
+add-with c =
+    let r = open-at c in
+    record { fits = omega (arith, r .seen (c .before .before .before .args .label) (r .coded), r .more, r .small) }
+
+mul-with-2 : tie.Need-mul-with-2
+mul-with-2 c = record { fits = omega (arith, open-at c .coded, open-at c .few) }
+
+array-write-with : tie.Need-array-write-with
+array-write-with c = omega (arith, open-at c .coded, open-at c .few)
 
 -- at the test whether the row is only counted
 module _ (c : tie.After-is-quiet) where
@@ -34,14 +54,13 @@ module _ (c : tie.After-is-quiet) where
   ready : Ready was (start .args .label)
   ready = start .pre (c .before .before .before .before .if1 .left)
 
-  to-score : Scorable (was .own) (was .seen) (was .labels) (was .counted) (was .size)
-  to-score = scorable was (start .args .label) ready
-
 sub-rest : tie.Need-sub-rest
 sub-rest c = omega (arith, ready (c .before .before) .more)
 
 find-peaks-requires : tie.Need-find-peaks-requires
-find-peaks-requires c κs = to-score (c .before .before .before .before .before) .countable
+find-peaks-requires c κs =
+    let k = c .before .before .before .before .before in
+    countable (was k) (start k .args .label) (ready k)
 
 -- after the label counts
 module _ (c : tie.After-find-peaks) where
@@ -49,12 +68,7 @@ module _ (c : tie.After-find-peaks) where
   at = c .before .before .before .before .before .before
 
   in-part : (c .find-peaks .result .before ≤ was at .counted) × (c .find-peaks .result .after ≤ rowsLeft (was at))
-  in-part =
-      let t = was at in
-      let k = c .find-peaks in (
-        first-in (t .own) (t .seen) (t .labels) (t .counted) (t .size) (to-score at) (k .result) (k .ensures),
-        second-in (t .own) (t .seen) (t .labels) (t .counted) (t .size) (to-score at) (k .result) (k .ensures),
-      )
+  in-part = peaks-in (was at) (start at .args .label) (ready at) (c .find-peaks .result) (c .find-peaks .ensures)
 
 judge-cut-requires : tie.Need-judge-cut-requires
 judge-cut-requires c κs = omega (arith, in-part c .0, in-part c .1, ready (at c) .more, ready (at c) .small)
@@ -121,23 +135,6 @@ module _ (c : tie.Joined2) where
       ⊎-elim (λ w. ap (λ (t : SideScan). t .counted) (w .1)) (⊎-elim (λ w. ap (λ (t : SideScan). t .counted) (w .9)) (λ w. ap (λ (t : SideScan). t .counted) (w .8)))
       (c .if2 .came)
 
-mul-seen : tie.Need-mul-seen
-mul-seen c = record { fits = omega (arith, ready (here c) .coded, ready (here c) .few) }
-
-array-read-seen : tie.Need-array-read-seen
-array-read-seen c = omega (arith, ready (here c) .coded, ready (here c) .few)
-
-add-seen : tie.Need-add-seen
-add-seen c =
-    let r = ready (here c) in
-    record { fits = omega (arith, r .seen (label c) (r .coded), r .more, r .small) }
-
-mul-seen-2 : tie.Need-mul-seen-2
-mul-seen-2 c = record { fits = omega (arith, ready (here c) .coded, ready (here c) .few) }
-
-array-write-seen : tie.Need-array-write-seen
-array-write-seen c = omega (arith, ready (here c) .coded, ready (here c) .few)
-
 add-side : tie.Need-add-side
 add-side c = record { fits = omega (arith, ready (here c) .more, ready (here c) .small) }
 
@@ -150,5 +147,5 @@ pub step-spec : {M : Type 1} → statement M
 step-spec =
     tie.close
     (tie.spec
-    returns (λ c κs. search needs) (λ c κs. search needs) sub-rest find-peaks-requires judge-cut-requires split-of-requires mul-seen array-read-seen
-    add-seen mul-seen-2 array-write-seen add-side returns-2)
+    returns mul-with array-read-with add-with mul-with-2 array-write-with (λ c κs. search needs) (λ c κs. search needs) sub-rest find-peaks-requires
+    judge-cut-requires split-of-requires add-side returns-2)

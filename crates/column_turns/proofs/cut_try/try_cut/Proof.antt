@@ -33,7 +33,7 @@ scan-sides-requires c κs =
     let marked = c .before .before .before .mark-cut in
     let words : List ℕ = marked .last .1 .1 .1 .1 .1 .0 in
     let enough = kept-enough (a .size .rows) (a .scratch .now) words (start .pre .enough) (marked .ensures .0 .kept) in
-    (enough, tried-scannable (a .size) (a .values .now) (a .codes .now) (a .order .now) (a .cuts .now) (a .column) (a .cut) (a .scratch .now) (start .pre) (marksOf (a .size .rows) words) (marks-length (a .size .rows) words enough))
+    (enough, tried-scannable (a .size) (a .values .now) (a .codes .now) (a .order .now) (a .cuts .now) (a .column) (a .cut) (a .scratch .now) (start .pre) (marksOf (a .size .rows) words) (marks-length (a .size .rows) words enough) (marked .ensures .1))
 
 side-error-requires : tie.Need-side-error-requires
 side-error-requires c κs =
