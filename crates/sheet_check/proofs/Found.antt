@@ -23,6 +23,7 @@ use Rattle.sheet.specs.Ready.{Listed, Shaped}
 use Rattle.sheet.proofs.Search.{Clean, clean-walk, walk-most, untruth}
 use Rattle.sheet.proofs.Index.{at-column, column-in}
 use Rattle.sheet.proofs.Answer.{rest2, rest6}
+use Rattle.sheet_check.specs.Steps.{Passed, endsHold}
 
 -- ---- one reason
 
@@ -101,6 +102,14 @@ module _ (size : Size) (values : List Float) (codes order cuts counts : List ℕ
       ≡ walk (badCuts (sheetOf size values codes order cuts counts)) n 0
   unfolding badCuts placesOf placeOf countOf cutsOf isCut valueAt valueOf rowAt
   cuts-part n = refl
+
+  pub passed-part : (c : ℕ) → Passed (sheetOf size values [] order cuts counts) c → Passed (sheetOf size values codes order cuts counts) c
+  unfolding badOrder met placesOf placeOf countOf cutsOf isCut valueAt valueOf rowAt
+  passed-part c p = record { in-order = p .in-order; climbs = p .climbs; matches = p .matches }
+
+  pub ends-part : (c : ℕ) → endsHold (sheetOf size values [] order [] []) c ≡ endsHold (sheetOf size values codes order cuts counts) c
+  unfolding valueAt valueOf rowAt
+  ends-part c = refl
 
   -- reason 7 ruled out: every entry is a row
   pub rows-below : 1 ≤ size .rows → Clean (atIndex (badOrder (sheetOf size [] [] order [] [])) (size .rows)) (size .columns * size .rows)

@@ -2,3 +2,5 @@
 mod Found
 mod Marks
 mod Matched
+mod Seen
+mod Whole

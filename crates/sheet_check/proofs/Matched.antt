@@ -1,14 +1,14 @@
 -- A column's cuts, one place after the other: what was found so far is what is listed so far, or the list is not that of the cuts. Assumes nothing.
 use mathlib.Core.Path.{_≡_, sym, ap, _∙_, subst}
-use Prim.Native.Nat.{ℕ, _+_, _≤_, _<_}
+use Prim.Native.Nat.{ℕ, _+_, _<_}
 use native.Mathlib.Omega.{arith}
 use mathlib.Core.Bool.{not, _&&_}
 use mathlib.Core.List.{List, [], _∷_, _++_}
 use lib.ListN.{length, getD, length-append}
 use lib.Seq.{getD-at}
-use lib.Dec.{T, T-not, ltb, eqb, lt→ltb, ltb→lt, eqb→eq, eqb-refl}
+use lib.Dec.{T, T-not, ltb, eqb, lt→ltb, eqb→eq, eqb-refl}
 use Rattle.basics.specs.Lists.{those, table}
-use Rattle.basics.proofs.Choice.{pick-true, pick-false, and-left, and-right, and-both, same-bool}
+use Rattle.basics.proofs.Choice.{pick-true, pick-false, and-both, same-bool}
 use Rattle.basics.proofs.Lists.{getD-table, length-table, table-more, table-split, those-append}
 use Rattle.sheet.specs.Sheet.{Sheet, isCut, countOf, placeOf, placesOf}
 use Rattle.sheet.specs.Check.{cutsOf, same}
@@ -29,26 +29,24 @@ cut-within s c i n h t =
 -- the first `found` listed places are the cuts before place i
 pub record Matched (s : Sheet) (c found i : ℕ) : Type 0 where
   pub few : found < i
-  pub most : found ≤ countOf s c
   pub alike : table (placeOf s c) found ≡ cutsTo s c i
 
 pub matched-none : (s : Sheet) (c : ℕ) → Matched s c 0 1
 matched-none s c =
-    record { few = omega arith; most = omega arith; alike = sym (pick-false (isCut s c 0) (0 ∷ []) [] (cut-first s c)) }
+    record { few = omega arith; alike = sym (pick-false (isCut s c 0) (0 ∷ []) [] (cut-first s c)) }
 
 module _ (s : Sheet) (c found i : ℕ) (m : Matched s c found i) where
   pub matched-skip : T (not (isCut s c i)) → Matched s c found (i + 1)
-  matched-skip t = record { few = omega arith; most = m .most; alike = m .alike ∙ sym (cuts-skip s c i t) }
+  matched-skip t = record { few = omega arith; alike = m .alike ∙ sym (cuts-skip s c i t) }
 
-  pub matched-take : T (isCut s c i) → T (ltb found (countOf s c) && eqb (placeOf s c found) i) → Matched s c (found + 1) (i + 1)
-  matched-take t b =
+  pub matched-take : T (isCut s c i) → placeOf s c found ≡ i → Matched s c (found + 1) (i + 1)
+  matched-take t e =
       record {
         few = omega arith;
-        most = omega (arith, ltb→lt found (countOf s c) (and-left (ltb found (countOf s c)) (eqb (placeOf s c found) i) b));
         alike =
             table-more (placeOf s c) found
             ∙ ap (λ l. l ++ (placeOf s c found ∷ [])) (m .alike)
-            ∙ ap (λ (p : ℕ). cutsTo s c i ++ (p ∷ [])) (eqb→eq (placeOf s c found) i (and-right (ltb found (countOf s c)) (eqb (placeOf s c found) i) b))
+            ∙ ap (λ (p : ℕ). cutsTo s c i ++ (p ∷ [])) e
             ∙ sym (cuts-take s c i t);
       }
 

@@ -8,7 +8,8 @@ use native.Mathlib.Omega.{arith}
 use borrow.Author.Needs.{needs}
 use borrow.Author.Tests.{not-true, not-false}
 use lib.ListN.{length, getD}
-use lib.Dec.{ltb, eqb}
+use lib.Dec.{ltb, eqb, eqb→eq}
+use Rattle.basics.proofs.Choice.{and-right}
 use Rattle.sheet.specs.Sheet.{Sheet, valueAt, placeOf, countOf, placesOf}
 use Rattle.sheet.specs.Check.{sheetOf, cutsOf, same}
 use Rattle.sheet.proofs.Search.{truth, untruth, falsity}
@@ -124,7 +125,9 @@ loop-again c =
       subst (λ n. Matched (sheet (start f)) (start f .args .column) n (head f .loop .i + 1)) (sym (w .3))
           (matched-take (sheet (start f)) (start f .args .column) (head f .loop .found) (head f .loop .i) (head f .loop .inv .1)
           (cut-yes _ _ _ _ _ (here f) (before f) (omega (arith, head f .loop .inv .1 .few)) (w .0 .taken))
-          (truth (sym (listed f) ∙ sym (w .1 .ensures) ∙ not-false _ (w .2 .left)))),
+          (eqb→eq _ (head f .loop .i)
+          (and-right (ltb (head f .loop .found) (countOf (sheet (start f)) (start f .args .column))) _
+          (truth (sym (listed f) ∙ sym (w .1 .ensures) ∙ not-false _ (w .2 .left)))))),
     ))
     (λ w. (search needs, subst (λ n. Matched (sheet (start f)) (start f .args .column) n (head f .loop .i + 1)) (sym (w .1)) (matched-skip (sheet (start f)) (start f .args .column) (head f .loop .found) (head f .loop .i) (head f .loop .inv .1) (cut-no _ _ _ _ _ (here f) (before f) (w .0 .left)))))
     (c .if2 .came)
