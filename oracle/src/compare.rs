@@ -6,7 +6,7 @@ use crate::model::marks::{Marks, ALL};
 use crate::model::{self, check, judge, least, prepare};
 use crate::original::{self, Ids};
 use crate::sheet::{Sheet, SCRATCH_PER_ROW};
-use crate::{listing, port, random, small};
+use crate::{halves, listing, port, random, small};
 use std::time::{Duration, Instant};
 
 const PROGRESS: Duration = Duration::from_secs(10);
@@ -126,6 +126,8 @@ struct Run {
     found: u64,
     turned_back: [u64; 10],
     unprepared: [u64; 10],
+    /// Columns that the port's preparer sorts by halves.
+    by_halves: u64,
     taken: [u64; 64],
     started: Instant,
     shown: Instant,
@@ -134,7 +136,7 @@ struct Run {
 impl Run {
     fn new() -> Run {
         let now = Instant::now();
-        Run { done: 0, differ: 0, found: 0, turned_back: [0; 10], unprepared: [0; 10], taken: [0; 64], started: now, shown: now }
+        Run { done: 0, differ: 0, found: 0, turned_back: [0; 10], unprepared: [0; 10], by_halves: 0, taken: [0; 64], started: now, shown: now }
     }
 
     fn sheet(&mut self, sheet: &Sheet, name: &dyn Fn() -> String) {
@@ -143,6 +145,8 @@ impl Run {
         for mark in ALL {
             self.taken[*mark as usize] += u64::from(marks.has(*mark));
         }
+        let columns = sheet.values.chunks_exact(sheet.numbers.rows);
+        self.by_halves += columns.filter(|column| halves::sorted_by_halves(column)).count() as u64;
         self.count(outcome, sheet, name);
     }
 
@@ -179,7 +183,7 @@ impl Run {
             self.sheet(&small::sheet(number), &|| format!("small sheet {number}"));
         }
         for number in 0..plan.sheets - damaged - walked {
-            self.sheet(&random::sheet(plan.seed, number), &|| format!("random sheet {number} of seed {}", plan.seed));
+            self.sheet(&random::sheet_of_run(plan.seed, number), &|| format!("random sheet {number} of seed {}", plan.seed));
         }
         for number in 0..damaged {
             let mut draw = Draw::at(plan.seed + 1, number);
@@ -202,6 +206,7 @@ impl Run {
         for (reason, times) in self.unprepared.iter().enumerate().filter(|(_, times)| **times > 0) {
             println!("{times:>10} reason {reason} of the preparer");
         }
+        println!("{:>10} columns sorted by halves", self.by_halves);
         let refused: u64 = self.turned_back.iter().sum();
         let kept = self.done - self.differ - self.found - refused;
         println!("{} found, {kept} kept, {refused} turned back, seed {seed}, {:.0} s", self.found, self.started.elapsed().as_secs_f64());

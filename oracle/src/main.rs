@@ -4,6 +4,7 @@ mod ask;
 mod compare;
 mod damage;
 mod draw;
+mod halves;
 mod listing;
 mod merging;
 mod model;
@@ -21,7 +22,7 @@ mod table;
 use std::process::ExitCode;
 
 const USAGE: &str = "run [--sheets N] [--seed S] [--tiny] | ask [--model] [--merged] [--mistakes] [--least] FILE | bytes FILE
-  | table | merging | record PROGRAM SEARCHES | speed [search|prepare] [--runs K] [--seed S]";
+  | table | merging | record PROGRAM SEARCHES | speed [search|prepare|whole] [--runs K] [--seed S]";
 
 /// The number after a flag.
 fn number(args: &[String], flag: &str, otherwise: u64) -> Result<u64, String> {
@@ -45,9 +46,10 @@ fn speed(args: &[String]) -> Result<bool, String> {
     let seed = number(args, "--seed", compare::DEFAULT_SEED)?;
     let work = match args.first().map(String::as_str) {
         Some("prepare") => speed::Work::Prepare,
+        Some("whole") => speed::Work::Whole,
         _ => speed::Work::Search,
     };
-    speed::table(work, runs, seed);
+    speed::table(work, runs, seed)?;
     Ok(true)
 }
 

@@ -2,13 +2,13 @@
 //! than `f64::EPSILON`; `Ids::Merged` asks for that preparation.
 use crate::answer::{Answer, Side, Tree};
 use crate::sheet::Sheet;
+use crate::speed::seconds;
 use contree::algorithms::depth2::ConTreeDepth2;
 use contree::caching::Entry;
 use contree::common::{PointSelector, SearchConfig, Statistics};
 use contree::data::view::DataView;
 use contree::data::{DataPoint, Dataset};
 use std::panic::{catch_unwind, AssertUnwindSafe};
-use std::time::Instant;
 
 #[derive(Clone, Copy, PartialEq, Eq)]
 pub enum Ids {
@@ -33,12 +33,15 @@ pub fn dataset(sheet: &Sheet, ids: Ids) -> Dataset {
     let mut dataset = points(sheet);
     match ids {
         Ids::ByEquality => lay_out(sheet, &mut dataset),
-        Ids::Merged => {
-            dataset.sort_features();
-            dataset.compute_unique_feature_values();
-        }
+        Ids::Merged => index(&mut dataset),
     }
     dataset
+}
+
+/// Every column sorted and its values indexed, as the original does it.
+fn index(dataset: &mut Dataset) {
+    dataset.sort_features();
+    dataset.compute_unique_feature_values();
 }
 
 /// Every column in the sheet's own order, with an id that rises where the value does.
@@ -104,12 +107,20 @@ fn side(tree: &contree::tree::Tree, node: usize) -> Side {
     }
 }
 
-/// Seconds of the original's own preparation: columns sorted, values indexed, cuts found. Its points are laid out before the clock starts.
+/// The original's own preparation: columns sorted, values indexed, cuts found.
+fn prepared(dataset: &mut Dataset) -> DataView<'_> {
+    index(dataset);
+    DataView::root(dataset, false)
+}
+
+/// Seconds of the original's own preparation. Its points are laid out before the clock starts.
 pub fn prepare_seconds(sheet: &Sheet) -> f64 {
     let mut dataset = points(sheet);
-    let start = Instant::now();
-    dataset.sort_features();
-    dataset.compute_unique_feature_values();
-    std::hint::black_box(DataView::root(&dataset, false));
-    start.elapsed().as_secs_f64()
+    seconds(|| prepared(&mut dataset))
+}
+
+/// Seconds of the original's own preparation and of `fit` on what it prepared. Its points are laid out before the clock starts.
+pub fn whole_seconds(sheet: &Sheet) -> f64 {
+    let mut dataset = points(sheet);
+    seconds(|| fit(sheet, &prepared(&mut dataset)))
 }

@@ -17,6 +17,18 @@ pub fn draw(draw: &mut Draw, count: usize) -> Vec<f64> {
     values
 }
 
+/// `count` values, ascending, each above the one before: a stretch of twice as many, of which some may be equal.
+pub fn draw_apart(draw: &mut Draw, count: usize) -> Vec<f64> {
+    loop {
+        let mut values = self::draw(draw, 2 * count);
+        values.dedup();
+        if values.len() >= count {
+            let from = draw.below(values.len() - count + 1);
+            return values[from..from + count].to_vec();
+        }
+    }
+}
+
 fn in_unit(draw: &mut Draw) -> f64 {
     (draw.next() >> 11) as f64 / (1u64 << 53) as f64
 }

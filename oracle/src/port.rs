@@ -6,7 +6,7 @@ use crate::speed::Work;
 
 // what only one of the functions needs stands unused where that one is not linked
 #[cfg(any(feature = "search", feature = "check", feature = "prepare"))]
-#[allow(dead_code)]
+#[allow(dead_code, unused_macros)]
 mod linked;
 
 /// A reason's number and place, if a call turns back; or what the port did to lent words that it owed otherwise.
@@ -45,12 +45,19 @@ pub fn prepare(_sheet: &Sheet, _wanted: Option<&Sheet>) -> Option<Turned> {
     None
 }
 
+/// The port's answer on what its own preparer made of the sheet's values.
+#[cfg(all(feature = "prepare", feature = "search"))]
+pub fn whole(sheet: &Sheet) -> Option<Result<Answer, String>> {
+    Some(linked::whole(sheet))
+}
+
+#[cfg(not(all(feature = "prepare", feature = "search")))]
+pub fn whole(_sheet: &Sheet) -> Option<Result<Answer, String>> {
+    None
+}
+
 pub fn compared() -> String {
-    let functions = [
-        ("search", cfg!(feature = "search")),
-        ("check", cfg!(feature = "check")),
-        ("prepare", cfg!(feature = "prepare")),
-    ];
+    let functions = [("search", cfg!(feature = "search")), ("check", cfg!(feature = "check")), ("prepare", cfg!(feature = "prepare"))];
     let linked: Vec<&str> = functions.iter().filter(|(_, there)| *there).map(|(name, _)| *name).collect();
     match linked.is_empty() {
         true => "compared: the original and the model; the port is not linked".to_string(),
@@ -63,12 +70,18 @@ pub fn timed(work: Work, sheet: &Sheet) -> Option<Box<dyn FnMut() -> f64 + '_>> 
     match work {
         Work::Search => timed_search(sheet),
         Work::Prepare => timed_prepare(sheet),
+        Work::Whole => timed_whole(sheet),
     }
 }
 
 #[cfg(feature = "search")]
+fn lent_scratch(sheet: &Sheet) -> Vec<u32> {
+    vec![0; crate::sheet::SCRATCH_PER_ROW * sheet.numbers.rows]
+}
+
+#[cfg(feature = "search")]
 fn timed_search(sheet: &Sheet) -> Option<Box<dyn FnMut() -> f64 + '_>> {
-    let mut scratch = vec![0; crate::sheet::SCRATCH_PER_ROW * sheet.numbers.rows];
+    let mut scratch = lent_scratch(sheet);
     Some(Box::new(move || crate::speed::seconds(|| linked::call(sheet, &mut scratch))))
 }
 
@@ -79,11 +92,23 @@ fn timed_search(_sheet: &Sheet) -> Option<Box<dyn FnMut() -> f64 + '_>> {
 
 #[cfg(feature = "prepare")]
 fn timed_prepare(sheet: &Sheet) -> Option<Box<dyn FnMut() -> f64 + '_>> {
-    let mut lent = linked::Lists::filled(sheet);
-    Some(Box::new(move || crate::speed::seconds(|| linked::call_prepare(sheet, &mut lent))))
+    let mut lent = linked::filled(sheet);
+    Some(Box::new(move || crate::speed::seconds(|| linked::call_prepare(&mut lent))))
 }
 
 #[cfg(not(feature = "prepare"))]
 fn timed_prepare(_sheet: &Sheet) -> Option<Box<dyn FnMut() -> f64 + '_>> {
+    None
+}
+
+#[cfg(all(feature = "prepare", feature = "search"))]
+fn timed_whole(sheet: &Sheet) -> Option<Box<dyn FnMut() -> f64 + '_>> {
+    let mut lent = linked::filled(sheet);
+    let mut scratch = lent_scratch(sheet);
+    Some(Box::new(move || crate::speed::seconds(|| linked::call_whole(&mut lent, &mut scratch))))
+}
+
+#[cfg(not(all(feature = "prepare", feature = "search")))]
+fn timed_whole(_sheet: &Sheet) -> Option<Box<dyn FnMut() -> f64 + '_>> {
     None
 }

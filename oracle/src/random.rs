@@ -1,6 +1,7 @@
 //! Drawn sheets of every size around every limit.
 use crate::answer::Answer;
 use crate::draw::Draw;
+use crate::halves;
 use crate::model::{self, marks::Marks, prepare};
 use crate::palette;
 use crate::sheet::*;
@@ -8,26 +9,60 @@ use crate::sheet::*;
 /// Rows × columns × columns above which a drawn sheet is given fewer distinct values, so that one sheet never takes long.
 const WORK: usize = 1 << 16;
 
+/// One drawn sheet in so many of a run is one for columns that the port sorts by halves.
+const BY_HALVES_ONE_IN: u64 = 200;
+
 /// The numbered sheet of a seed, prepared, its tied rows in a drawn order.
 pub fn sheet(seed: u64, number: u64) -> Sheet {
     let mut draw = Draw::at(seed, number);
     let rows = draw_rows(&mut draw);
-    let columns = draw_columns(&mut draw, rows);
-    let labels = draw_labels(&mut draw, rows);
+    drawn(&mut draw, rows, draw_column)
+}
+
+/// The numbered sheet of a run: that of the seed, or one with columns that the port sorts by halves. Those stand apart, since they want more rows
+/// than a sheet mostly has, and since the recorded sheets are those of a seed.
+pub fn sheet_of_run(seed: u64, number: u64) -> Sheet {
+    if number % BY_HALVES_ONE_IN != BY_HALVES_ONE_IN - 1 {
+        return sheet(seed, number);
+    }
+    let mut draw = Draw::at(seed, number);
+    let rows = draw_many_rows(&mut draw);
+    drawn(&mut draw, rows, draw_column_by_halves)
+}
+
+/// A sheet of so many rows whose columns' values are drawn by `draw_column`, which is told the rows and how many distinct values they may have.
+fn drawn(draw: &mut Draw, rows: usize, draw_column: fn(&mut Draw, usize, usize) -> Vec<f64>) -> Sheet {
+    let columns = draw_columns(draw, rows);
+    let labels = draw_labels(draw, rows);
     let mut sheet = Sheet { numbers: Numbers { rows, columns, labels, ..Numbers::default() }, ..Sheet::default() };
     for _ in 0..columns {
-        let distinct = draw_distinct(&mut draw, rows, columns);
-        let values = palette::draw(&mut draw, distinct);
-        for _ in 0..rows {
-            let value = draw.of(&values);
-            sheet.values.push(palette::either_zero(&mut draw, value));
-        }
+        let distinct = draw_distinct(draw, rows, columns);
+        sheet.values.extend(draw_column(draw, rows, distinct));
     }
-    draw_codes(&mut draw, &mut sheet);
+    draw_codes(draw, &mut sheet);
     prepare::prepare(&mut sheet);
-    permute_ties(&mut draw, &mut sheet);
-    draw_limits(&mut draw, &mut sheet);
+    permute_ties(draw, &mut sheet);
+    draw_limits(draw, &mut sheet);
     sheet
+}
+
+fn draw_column(draw: &mut Draw, rows: usize, distinct: usize) -> Vec<f64> {
+    let values = palette::draw(draw, distinct);
+    let mut cell = || {
+        let value = draw.of(&values);
+        palette::either_zero(draw, value)
+    };
+    (0..rows).map(|_| cell()).collect()
+}
+
+/// A column that the port sorts by halves, its inner rows with so many values; one in four is drawn as elsewhere.
+fn draw_column_by_halves(draw: &mut Draw, rows: usize, inner: usize) -> Vec<f64> {
+    if draw.one_in(4) {
+        return draw_column(draw, rows, inner);
+    }
+    let ranks = halves::column(draw, rows, inner);
+    let values = palette::draw_apart(draw, halves::ranks(inner));
+    ranks.into_iter().map(|rank| palette::either_zero(draw, values[rank])).collect()
 }
 
 fn draw_rows(draw: &mut Draw) -> usize {
@@ -35,6 +70,15 @@ fn draw_rows(draw: &mut Draw) -> usize {
         0..=849 => draw.between(1, 16),
         850..=979 => draw.between(17, 64),
         980..=996 => draw.between(65, 400),
+        _ => draw.of(&[511, 512, 1023, 2048, 4095, 4096]),
+    }
+}
+
+/// Rows enough for a column that is sorted by halves.
+fn draw_many_rows(draw: &mut Draw) -> usize {
+    match draw.below(20) {
+        0..=3 => halves::FEWEST_ROWS + draw.below(3),
+        4..=18 => draw.between(halves::FEWEST_ROWS, 400),
         _ => draw.of(&[511, 512, 1023, 2048, 4095, 4096]),
     }
 }

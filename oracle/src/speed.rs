@@ -1,8 +1,10 @@
 //! The original, and the port where it is linked, timed on the same prepared sheets in one process, call by call in turn; the best of several
 //! calls counts. Never under an emulator: both are compiled for the machine at hand. The preparer is timed beside the original's own preparation and
-//! beside Rust's `sort_by` of the same rows by the same keys, which finds no cuts and looks at no limits.
+//! beside Rust's `sort_by` of the same rows by the same keys, which finds no cuts and looks at no limits. The whole is what a caller waits for: each
+//! one's own preparation and then its search.
 use crate::answer::Answer;
 use crate::draw::Draw;
+use crate::halves;
 use crate::model::prepare;
 use crate::original::{self, Ids};
 use crate::port;
@@ -27,6 +29,7 @@ pub const DEFAULT_RUNS: u64 = 5;
 pub enum Work {
     Search,
     Prepare,
+    Whole,
 }
 
 #[derive(Clone, Copy)]
@@ -67,9 +70,21 @@ enum Lie {
     Values(usize),
     /// Every other row drawn, the rest with one value.
     HalfEqual,
+    /// Built so that the port gives its sort by parts up and sorts by halves.
+    ByHalves,
 }
 
-const LIES: [(Lie, &str); 8] = [
+impl Lie {
+    /// The rows that it wants at least.
+    fn wants(self) -> usize {
+        match self {
+            Lie::ByHalves => halves::FEWEST_ROWS,
+            _ => 1,
+        }
+    }
+}
+
+const LIES: [(Lie, &str); 9] = [
     (Lie::Random, "random"),
     (Lie::Ascending, "ascending"),
     (Lie::Descending, "descending"),
@@ -78,21 +93,29 @@ const LIES: [(Lie, &str); 8] = [
     (Lie::Values(8), "8 values"),
     (Lie::Values(64), "64 values"),
     (Lie::HalfEqual, "half equal"),
+    (Lie::ByHalves, "by halves"),
 ];
+/// The inner rows of a column that is sorted by halves have drawn values, of so many: next to none are equal.
+const INNER: usize = 1 << 32;
 const PREPARED_SHAPES: [(usize, usize); 3] = [(MOST_ROWS, MOST_COLUMNS), (1_024, 4), (64, 4)];
+
+fn laid_column(lie: Lie, rows: usize, draw: &mut Draw) -> Vec<f64> {
+    let free = |draw: &mut Draw| draw.next() as f64 / u64::MAX as f64;
+    let all = 0..rows;
+    match lie {
+        Lie::Random => all.map(|_| free(draw)).collect(),
+        Lie::Ascending => all.map(|row| row as f64).collect(),
+        Lie::Descending => all.map(|row| (rows - row) as f64).collect(),
+        Lie::Equal => vec![1.0; rows],
+        Lie::Values(count) => all.map(|_| draw.below(count) as f64).collect(),
+        Lie::HalfEqual => all.map(|row| if row % 2 == 0 { 0.5 } else { free(draw) }).collect(),
+        Lie::ByHalves => halves::column(draw, rows, INNER).into_iter().map(|rank| rank as f64).collect(),
+    }
+}
 
 fn laid(lie: Lie, rows: usize, columns: usize, seed: u64) -> Sheet {
     let mut draw = Draw::new(seed);
-    let mut value = |row: usize| match lie {
-        Lie::Random => draw.next() as f64 / u64::MAX as f64,
-        Lie::Ascending => row as f64,
-        Lie::Descending => (rows - row) as f64,
-        Lie::Equal => 1.0,
-        Lie::Values(count) => draw.below(count) as f64,
-        Lie::HalfEqual if row % 2 == 0 => 0.5,
-        Lie::HalfEqual => draw.next() as f64 / u64::MAX as f64,
-    };
-    let values = (0..rows * columns).map(|index| value(index % rows)).collect();
+    let values = (0..columns).flat_map(|_| laid_column(lie, rows, &mut draw)).collect();
     let numbers = Numbers { rows, columns, labels: 1, ..Numbers::default() };
     let mut sheet = Sheet { numbers, values, codes: vec![0; rows], ..Sheet::default() };
     prepare::prepare(&mut sheet);
@@ -131,7 +154,7 @@ fn prepared_table(runs: u64, seed: u64) {
         "rows", "columns", "kind", "original", "sort_by", "port", "port/original", "port/sort_by"
     );
     for shape in PREPARED_SHAPES {
-        for (lie, name) in LIES {
+        for (lie, name) in LIES.into_iter().filter(|(lie, _)| lie.wants() <= shape.0) {
             prepared_line(lie, name, shape, runs, seed);
         }
     }
@@ -173,17 +196,42 @@ fn best(runs: u64, finders: &mut [Timed<'_>]) -> Vec<f64> {
     least
 }
 
-fn line(shape: &Shape, runs: u64, seed: u64) {
+/// The original's preparation merges values closer than `f64::EPSILON` and puts tied rows in an order of its own. So the whole of each has to answer
+/// what `fit` does on the sheet as it stands, tried count and all, or the times are not those of one search.
+fn same_whole(sheet: &Sheet, answer: &Answer) -> Result<(), String> {
+    let original = original::search(sheet, Ids::Merged).ok_or("the original panics")?;
+    let port = port::whole(sheet).transpose()?;
+    for whole in [Some(original), port].into_iter().flatten() {
+        if whole != *answer {
+            return Err(format!("{:?}: not the same search\n{answer:?}\n{whole:?}", sheet.numbers));
+        }
+    }
+    Ok(())
+}
+
+fn line(work: Work, shape: &Shape, runs: u64, seed: u64) -> Result<(), String> {
     let sheet = sheet(shape, seed);
     let dataset = original::dataset(&sheet, Ids::ByEquality);
     let view = DataView::root(&dataset, false);
-    let tried = match original::fit(&sheet, &view) {
-        Answer::Kept { tried, .. } | Answer::Found { tried, .. } => tried,
+    let answer = original::fit(&sheet, &view);
+    let original: Timed<'_> = match work {
+        Work::Whole => Box::new(|| original::whole_seconds(&sheet)),
+        _ => Box::new(|| seconds(|| original::fit(&sheet, &view))),
+    };
+    if work == Work::Whole {
+        same_whole(&sheet, &answer)?;
+    }
+    let mut finders = vec![original];
+    finders.extend(port::timed(work, &sheet));
+    print_line(shape, &answer, &best(runs, &mut finders));
+    Ok(())
+}
+
+fn print_line(shape: &Shape, answer: &Answer, times: &[f64]) {
+    let tried = match answer {
+        Answer::Kept { tried, .. } | Answer::Found { tried, .. } => *tried,
         Answer::TurnedBack { .. } => 0,
     };
-    let mut finders = vec![Box::new(|| seconds(|| original::fit(&sheet, &view))) as Timed<'_>];
-    finders.extend(port::timed(Work::Search, &sheet));
-    let times = best(runs, &mut finders);
     let kind = if shape.structured { "structured" } else { "random" };
     print!("{:>5} {:>7} {:>6} {:>7} {kind:<10} {tried:>6}", shape.rows, shape.columns, shape.labels, shape.support);
     print!(" {:>12.4}", times[0] * 1e3);
@@ -193,16 +241,20 @@ fn line(shape: &Shape, runs: u64, seed: u64) {
     }
 }
 
-pub fn table(work: Work, runs: u64, seed: u64) {
-    if work == Work::Prepare {
-        return prepared_table(runs, seed);
-    }
-    println!("search: milliseconds, best of {runs}, seed {seed}, {}; {}", std::env::consts::ARCH, port::compared());
+fn searched_table(work: Work, runs: u64, seed: u64) -> Result<(), String> {
+    let name = if work == Work::Whole { "preparation and search" } else { "search" };
+    println!("{name}: milliseconds, best of {runs}, seed {seed}, {}; {}", std::env::consts::ARCH, port::compared());
     println!(
         "{:>5} {:>7} {:>6} {:>7} {:<10} {:>6} {:>12} {:>12} {:>6}",
         "rows", "columns", "labels", "support", "kind", "tried", "original", "port", "ratio"
     );
-    for shape in shapes() {
-        line(&shape, runs, seed);
+    shapes().iter().try_for_each(|shape| line(work, shape, runs, seed))
+}
+
+pub fn table(work: Work, runs: u64, seed: u64) -> Result<(), String> {
+    match work {
+        Work::Prepare => prepared_table(runs, seed),
+        Work::Search | Work::Whole => searched_table(work, runs, seed)?,
     }
+    Ok(())
 }

@@ -154,24 +154,18 @@ pub fn check(sheet: &Sheet, words: usize) -> Turned {
     Ok(turned)
 }
 
-/// The lists that the preparer fills, as long as a sheet's.
+/// The sheet with its three lists filled: what the preparer is lent.
 #[cfg(feature = "prepare")]
-pub struct Lists {
-    order: Vec<u16>,
-    cuts: Vec<u16>,
-    counts: Vec<u16>,
-}
-
-#[cfg(feature = "prepare")]
-impl Lists {
-    pub fn filled(sheet: &Sheet) -> Lists {
-        let list = |length: usize| vec![FILL as u16; length];
-        Lists { order: list(sheet.order.len()), cuts: list(sheet.cuts.len()), counts: list(sheet.counts.len()) }
+pub fn filled(sheet: &Sheet) -> Sheet {
+    let mut lent = sheet.clone();
+    for list in [&mut lent.order, &mut lent.cuts, &mut lent.counts] {
+        list.fill(FILL as u16);
     }
+    lent
 }
 
 #[cfg(feature = "prepare")]
-pub fn call_prepare(sheet: &Sheet, lists: &mut Lists) -> [u64; TURNED_WORDS] {
+pub fn call_prepare(sheet: &mut Sheet) -> [u64; TURNED_WORDS] {
     let numbers = &numbers(sheet)[..2];
     let mut answer = [u64::MAX; TURNED_WORDS];
     // SAFETY: each pointer goes with the length of the slice that it comes from, and no two of the slices overlap.
@@ -181,12 +175,12 @@ pub fn call_prepare(sheet: &Sheet, lists: &mut Lists) -> [u64; TURNED_WORDS] {
             numbers.len(),
             sheet.values.as_ptr(),
             sheet.values.len(),
-            lists.order.as_mut_ptr(),
-            lists.order.len(),
-            lists.cuts.as_mut_ptr(),
-            lists.cuts.len(),
-            lists.counts.as_mut_ptr(),
-            lists.counts.len(),
+            sheet.order.as_mut_ptr(),
+            sheet.order.len(),
+            sheet.cuts.as_mut_ptr(),
+            sheet.cuts.len(),
+            sheet.counts.as_mut_ptr(),
+            sheet.counts.len(),
             answer.as_mut_ptr(),
             answer.len(),
         );
@@ -197,17 +191,27 @@ pub fn call_prepare(sheet: &Sheet, lists: &mut Lists) -> [u64; TURNED_WORDS] {
 /// "A turned-back preparer writes nothing."
 #[cfg(feature = "prepare")]
 pub fn prepare(sheet: &Sheet, wanted: Option<&Sheet>) -> Turned {
-    let mut lists = Lists::filled(sheet);
-    let turned = turned(&call_prepare(sheet, &mut lists))?;
-    let before = Lists::filled(sheet);
-    let owed = match wanted {
-        Some(wanted) => [&wanted.order, &wanted.cuts, &wanted.counts],
-        None => [&before.order, &before.cuts, &before.counts],
-    };
-    match [&lists.order, &lists.cuts, &lists.counts] == owed {
+    let before = filled(sheet);
+    let mut lent = before.clone();
+    let turned = turned(&call_prepare(&mut lent))?;
+    let owed = wanted.unwrap_or(&before);
+    match [&lent.order, &lent.cuts, &lent.counts] == [&owed.order, &owed.cuts, &owed.counts] {
         true => Ok(turned),
         false => Err("the preparer's lists are not as owed".to_string()),
     }
+}
+
+/// The preparer and then the search on what it prepared.
+#[cfg(all(feature = "prepare", feature = "search"))]
+pub fn call_whole(sheet: &mut Sheet, scratch: &mut [u32]) -> [u64; WORDS] {
+    call_prepare(sheet);
+    call(sheet, scratch)
+}
+
+#[cfg(all(feature = "prepare", feature = "search"))]
+pub fn whole(sheet: &Sheet) -> Result<Answer, String> {
+    let mut scratch = vec![FILL; SCRATCH_PER_ROW * sheet.numbers.rows];
+    answer(&call_whole(&mut filled(sheet), &mut scratch))
 }
 
 /// The words that a case does not use are 0.
