@@ -5,7 +5,7 @@ use Prim.Native.Nat.{ℕ, ◌+◌, ◌/◌, ◌≤◌, ◌<◌}
 use native.Mathlib.Omega.{arith}
 use native.Mathlib.Nat.{mul-div_cancel_left}
 use mathlib.Core.Bool.{Bool}
-use mathlib.Core.List.{List, [], ◌∷◌, ◌++◌, append_assoc, append_nil_lem}
+use mathlib.Core.List.{List, [], ◌∷◌, ◌++◌, append_assoc, append-nil}
 use lib.ListN.{length, length-append}
 use lib.Dec.{leb, eqb, le→leb}
 use Rattle.basics.proofs.Choice.{by_test, pick_true, pick_false, nleb, eqb_no, eqb_yes}
@@ -65,7 +65,7 @@ pub none_queued : (rows : ℕ) (xs : List ℕ) (q : Queue) (more : List Bound) �
     → Queued rows xs xs q q more
 none_queued rows xs q more sane e =
     record {
-      contents_are = sym (append_nil_lem (contents (ring_of rows xs) q)) ∙ ap (λ (l : List Bound). contents (ring_of rows xs) q ++ l) (sym e);
+      contents_are = sym (append-nil (contents (ring_of rows xs) q)) ∙ ap (λ (l : List Bound). contents (ring_of rows xs) q ++ l) (sym e);
       sane = sane;
       waiting = omega arith;
       table_is = refl;

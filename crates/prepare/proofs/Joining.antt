@@ -4,7 +4,7 @@ use Prim.Native.Nat.{ℕ, zero, suc, ◌+◌, ◌-◌, ◌*◌, ◌≤◌, ◌<�
 use native.Mathlib.Omega.{arith}
 use native.Mathlib.Nat.{zero-mul, suc-mul, mul_comm, mul-le-mul_right, mul-one}
 use native.Mathlib.Numerals.{add-one}
-use mathlib.Core.List.{List, [], ◌∷◌, ◌++◌, append_assoc, append_nil_lem}
+use mathlib.Core.List.{List, [], ◌∷◌, ◌++◌, append_assoc, append-nil}
 use lib.ListN.{get_or-append, length, get_or, take, drop, set, replicate, length-append, length-drop, length-set, length-replicate, drop_of_length-le}
 use lib.Seq.{take_at, drop-cons, drop-drop, drop-append-add, set_at, length-take-le, get_or-take, get_or-drop, get_or-append-add}
 use lib.Ieee.{Float, nan}
@@ -99,7 +99,7 @@ module _ (f : ℕ → List ℕ) (width : ℕ) (each : (c : ℕ) → length (f c)
     joined_all n h g l =
         let e : c ≡ n = omega arith in
         j.words ∙ ap (λ (z : List ℕ). columns_joined f c ++ z) (drop_of_length-le old {i = from} (omega (arith, l, j.place, ap (λ (m : ℕ). m * width) e)))
-        ∙ append_nil_lem (columns_joined f c) ∙ ap (columns_joined f) e
+        ∙ append-nil (columns_joined f c) ∙ ap (columns_joined f) e
 
 -- a column's one word is written
 module _ (f : ℕ → ℕ) (old new : List ℕ) (c : ℕ) (j : Joined (λ d. f d ∷ []) 1 old new c c) (h : c < length old) where

@@ -19,14 +19,14 @@ nought = fin false 0 (pos 0)
 
 -- ---- "A side starts as a leaf: its commonest label, smallest code on ties; its score is that count."
 
-abbrev pub field_own : SideScan → ℕ → ℕ
-field_own t l = get_or t.own l 0
+abbrev pub own_at : SideScan → ℕ → ℕ
+own_at t l = get_or t.own l 0
 
 unfoldable pub leaf_label : SideScan → ℕ
-leaf_label t = commonest (field_own t) t.labels
+leaf_label t = commonest (own_at t) t.labels
 
 unfoldable pub leaf_score : SideScan → ℕ
-leaf_score t = most_of (field_own t) t.labels
+leaf_score t = most_of (own_at t) t.labels
 
 -- a best whose question and leaves are not read
 abbrev pub blank_best : ℕ → Float → Best
