@@ -1,5 +1,7 @@
 // The larger and the smaller of two numbers, their difference not below 0, a test as a number, and narrow numbers as wide as an index. A name that ends in
 // `_word` is of u32.
+#![tactic(auto)]
+
 ghost use Rattle.std.specs.Prelude.{◌≡◌, ◌-◌, min, max};
 ghost use Rattle.basics.specs.Choice.{bit};
 ghost use Rattle.basics.specs.Wide.{Widened};

@@ -1,4 +1,6 @@
 // The finder's functions for C and Rust callers: numbers and slices only, and any of them may hold anything.
+#![tactic(auto)]
+
 mod c_numbers;
 mod c_told;
 mod c_words;

@@ -1,4 +1,6 @@
 // What the search's answer is worth: the search, with the three sentences that a signer relies on as a clause of its contract.
+#![tactic(auto)]
+
 ghost use Rattle.certificate.specs.Promise.{SignedOf};
 
 use sheet::{Size, Terms};

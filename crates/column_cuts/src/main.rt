@@ -1,5 +1,7 @@
 // Shows the cuts of one column: nine measured aspect ratios, sorted. For each cut it prints its place, the threshold's bits, and how many
 // rows go left there, which is proved to be the place itself.
+#![tactic(auto)]
+
 use digits::HEX_PLACES;
 use libc::STDOUT_FILENO;
 

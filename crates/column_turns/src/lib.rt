@@ -1,4 +1,6 @@
 // The search of one column, turn by turn (depth2.rs): the first interval that waits is pruned, its middle cut tried, and what is left of it waits in parts.
+#![tactic(auto)]
+
 pub mod cut_try;
 pub mod interval_steps;
 

@@ -1,4 +1,6 @@
 // Lookups in the list of one column's cuts.
+#![tactic(auto)]
+
 pub mod feasible_cuts;
 
 ghost use Rattle.std.specs.Prelude.{◌≡◌, ◌-◌, ◌≤◌, max, length};

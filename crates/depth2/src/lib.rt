@@ -1,4 +1,6 @@
 // The search of a whole sheet (depth2.rs): every column's cuts as the first question, the two-side scan below it.
+#![tactic(auto)]
+
 ghost use Rattle.std.specs.Prelude.{◌≡◌};
 ghost use Rattle.sheet.specs.Check.{sheet_of};
 ghost use Rattle.column_turns.specs.Lent.{Enough};

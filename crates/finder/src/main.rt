@@ -1,5 +1,7 @@
 // The finder: one sheet on standard input, its answer on standard output. Where either fails, a line on standard error says why. The exit
 // status is 0 all the same: a program here can end with no other.
+#![tactic(auto)]
+
 ghost use Rattle.std.specs.Prelude.{◌≡◌, ◌≤◌, length, take};
 ghost use Rattle.io.specs.Counts.{IsPrefixLen};
 ghost use Rattle.listing.specs.Listing.{listing_of};

@@ -1,4 +1,6 @@
 // The record of what was tried in one column (interval_pruner.rs), and the definitions of steps 1, 2 and 5 of its search, each step a crate above.
+#![tactic(auto)]
+
 pub mod interval_shrinking;
 pub mod neighbourhood_pruning;
 pub mod subinterval_pruning;

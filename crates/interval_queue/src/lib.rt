@@ -1,4 +1,6 @@
 // The intervals that wait, first in first out: a ring in lent words, four words an interval (the original's `VecDeque`).
+#![tactic(auto)]
+
 ghost use Rattle.std.specs.Prelude.{◌≡◌, ◌+◌, ◌/◌, ◌<◌, ◌≤◌, length};
 ghost use Rattle.interval_queue.specs.Ring.{slot_of, word_of, word_of_tried, tried_in, stored, loaded, popped, empty_bound, PushedTo};
 

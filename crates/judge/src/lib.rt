@@ -1,4 +1,6 @@
 // The judge: the reasons against a sheet and a tree, and then the tree run over the rows.
+#![tactic(auto)]
+
 pub mod judge_rows;
 
 ghost use Rattle.std.specs.Prelude.{◌≡◌, ◌≤◌, []};

@@ -1,4 +1,6 @@
 // Runs the judge and prints each verdict: document 01's trees on the four-row sheet, and each refusal at each of its places.
+#![tactic(auto)]
+
 use judge::Verdict;
 use judge::judge_rows::Wrong;
 use libc::STDOUT_FILENO;

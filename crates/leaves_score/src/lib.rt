@@ -1,4 +1,6 @@
 // The scan of the two sides of a root split: the best single question for each side, in one pass over each column.
+#![tactic(auto)]
+
 mod column_scan;
 pub mod two_sides;
 

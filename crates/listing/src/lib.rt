@@ -1,4 +1,6 @@
 // An answer as text, in the words of document 01.
+#![tactic(auto)]
+
 ghost use Rattle.std.specs.Prelude.{◌≡◌, ◌+◌, ◌≤◌, length};
 ghost use Rattle.digits.specs.Put.{Put};
 ghost use Rattle.listing.specs.Listing.{field, spot_of, question_of, score_of, line_of, leaf_of, split_of, side_line, found_of, rule_lines, ListedIn};

@@ -1,5 +1,7 @@
 // Asks our lookups and pruning steps all cases that the original was asked, and prints of each step how many they are and for how many lists ours
 // answers otherwise. Standard input has the digests of the original's answers.
+#![tactic(auto)]
+
 mod code;
 mod lookups;
 mod neighbourhood;

@@ -2,6 +2,8 @@
 // and has the judge run it over the rows. Where the text is the recorded one, the search's rule is the recorded rule: so the judge is run over recorded
 // trees and sheets, and over the search's own answers. Prints for each file how many sheets it has, how many the finder answers otherwise, how many rules
 // were judged, and how many of those the judge tells otherwise than the rule does.
+#![tactic(auto)]
+
 mod count;
 mod judged;
 mod record;

@@ -1,4 +1,6 @@
 // The finder as one function: a sheet's bytes in, the text of its answer out.
+#![tactic(auto)]
+
 mod sheet_search;
 
 ghost use Rattle.std.specs.Prelude.{◌≡◌};

@@ -1,5 +1,7 @@
 // Document 01's table T and its run cases, through the code. A case's line says what became of scratch: how many words are 0 from the start on, and
 // how many after them are as they were. The search's own answer follows as its listing.
+#![tactic(auto)]
+
 ghost use Rattle.std.specs.Prelude.{◌≤◌};
 
 use basics::smaller;

@@ -1,4 +1,6 @@
 // A sheet's bytes, read into lent memory. Everything is checked before anything is written.
+#![tactic(auto)]
+
 pub mod head_numbers;
 pub mod sheet_room;
 

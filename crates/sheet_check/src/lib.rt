@@ -1,4 +1,6 @@
 // The input check as a whole: the lowest of reasons 1 to 9 that holds, and its first place.
+#![tactic(auto)]
+
 mod cuts_check;
 mod fall_check;
 mod order_check;

@@ -1,4 +1,6 @@
 // The input check on small sheets: each reason at its first and its last place, two reasons at once, and every word of scratch.
+#![tactic(auto)]
+
 use basics::smaller;
 use libc::STDOUT_FILENO;
 use sheet::{Checked, Size, Terms};

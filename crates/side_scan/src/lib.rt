@@ -1,4 +1,6 @@
 // One side of a root split as the scan keeps it: its rows, the best question found, and what the next row of a column does to that.
+#![tactic(auto)]
+
 pub mod best_counts;
 pub mod cut_score;
 

@@ -7,7 +7,7 @@ use mathlib.Core.Bool.{Bool, true, false, ◌&&◌, beq, cond}
 use lib.Dec.{ltb}
 use lib.Pow.{pow_pos}
 use lib.Ieee.{Float, nan, inf, fin, Format, low, up, down, unlike, round, sum, add, div}
-use lib.Ieee.Fits.{down_pos, two}
+use lib.Ieee.Fits.{down_pos}
 use lib.Ieee.Exact.{HasValue}
 use lib.Ieee.Scale.{overflow, round_same}
 use Rattle.threshold.proofs.Compare.{ltb_same, left_cross, right_cross}

@@ -1,4 +1,6 @@
 // The threshold between two neighbouring values of a column, which way a value goes at it, and which values a sheet may hold.
+#![tactic(auto)]
+
 pub mod order;
 pub mod parting;
 

@@ -1,4 +1,5 @@
 // A found rule's shape (tree/mod.rs), and what a search answers.
+#![tactic(auto)]
 
 // "Is column c at most t?"
 #[derive(Drop)]

@@ -1,4 +1,5 @@
--- `threshold::parting::left_of_cut` meets its contract: each return is the definition's case, and the law of the cut follows from the count. Assumes nothing.
+-- `threshold::parting::left_of_cut` meets its contract: each return is the definition's case, and the law of the cut follows from the count.
+-- ---- the definition's three cases
 use mathlib.Core.Path.{◌≡◌, sym, ap, ◌∙◌}
 use Prim.Native.Nat.{ℕ, ◌-◌, ◌≤◌, ◌<◌}
 use mathlib.Core.List.{List}
@@ -6,15 +7,11 @@ use native.Mathlib.Omega.{arith}
 use lib.ListN.{length}
 use lib.Dec.{leb, ltb, le→leb, lt→ltb, not_T, leb→le, ltb→lt}
 use lib.Ieee.{Float}
-use borrow.Author.Rules.{rules}
 use Rattle.basics.proofs.Choice.{pick_true, pick_false}
 use Rattle.threshold.specs.Threshold.{threshold_of}
 use Rattle.threshold.specs.Column.{value_at_place, count_left, left_of_cut, Sorted, IsCut}
 use Rattle.threshold.proofs.Front.{parts_at_the_cut}
-use Rattle.threshold.proofs.parting.left_of_cut.Statement.{statement}
-use Rattle.threshold.proofs.parting.left_of_cut.Tie as tie
-
--- ---- the definition's three cases
+use Rattle.threshold.proofs.parting.left_of_cut.Goals as goal
 
 module _ (values : List Float) (i : ℕ) where
   at_the_front : i ≡ 0 → left_of_cut values i ≡ 0
@@ -34,25 +31,18 @@ module _ (values : List Float) (i : ℕ) where
   both : (r : ℕ) → r ≡ left_of_cut values i → (r ≡ left_of_cut values i) × (Sorted values → IsCut values i → r ≡ i)
   both r e = (e, λ s c. e ∙ parts_at_the_cut values i s c)
 
-returns : tie.Need-returns
-returns c =
-    let a = c.before.before.args in
+pub returns-then-at-eq0 : goal.returns-then-at-eq0
+returns-then-at-eq0 c =
+    let a = c.args in
     both a.values.now a.at 0 (sym (at_the_front a.values.now a.at (omega arith)))
 
-returns_2 : tie.Need-returns-2
-returns_2 c =
-    let a = c.before.before.before.args in
+pub returns-then-values-at : goal.returns-then-values-at
+returns-then-values-at c =
+    let a = c.args in
     both a.values.now a.at 0 (sym (past_the_end a.values.now a.at (omega arith) (omega arith)))
 
-returns_3 : tie.Need-returns-3
-returns_3 c =
-    let a = c.before.before.before.before.before.before.before.args in
+pub returns : goal.returns
+returns c =
+    let a = c.args in
     both a.values.now a.at c.sent_left.result
-    (c.sent_left.ensures ∙ ap (count_left a.values.now) c.before.threshold_between.ensures ∙ sym (inside a.values.now a.at (omega arith) (omega arith)))
-
-pub left_of_cut_spec : {M : Type 1} → statement M
-left_of_cut_spec =
-    tie.close
-    (tie.spec
-    returns returns_2 (λ c. search rules) (λ c. search rules) (λ c. search rules) (λ c. search rules) (λ c. search rules) (λ c κs. search rules)
-    (λ c κs. search rules) returns_3)
+    (c.sent_left.ensures ∙ ap (count_left a.values.now) c.threshold_between-threshold.ensures ∙ sym (inside a.values.now a.at (omega arith) (omega arith)))
