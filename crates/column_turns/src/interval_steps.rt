@@ -11,14 +11,14 @@ use sheet::Terms;
 use tree::Tree;
 
 // The rule held so far, if one was found.
-#[derive(Drop)]
+#[derive(Clone, Copy)]
 pub enum Held {
     Empty,
     Rule(Tree),
 }
 
 // The state between two columns.
-#[derive(Drop)]
+#[derive(Clone, Copy)]
 pub struct Standing {
     pub error: u32,
     pub tried: u32,
@@ -26,7 +26,7 @@ pub struct Standing {
 }
 
 // What step 5 takes from the terms, and how far a try's error is above the best.
-#[derive(Drop)]
+#[derive(Clone, Copy)]
 pub struct Reach {
     pub gap: u32,
     pub small: bool,

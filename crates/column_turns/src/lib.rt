@@ -170,7 +170,7 @@ fn places_of<'a>(size: Size, cuts: &'a [u16], counts: &[u16], column: usize) -> 
 }
 
 // The state between two intervals of a column.
-#[derive(Drop)]
+#[derive(Clone, Copy)]
 pub struct Course {
     pub standing: Standing,
     pub zeros: Zeros,
@@ -178,14 +178,14 @@ pub struct Course {
 }
 
 // A cut of a column, by number.
-#[derive(Drop)]
+#[derive(Clone, Copy)]
 struct ColumnCut {
     column: usize,
     cut: usize,
 }
 
 // A try, and the zero marks after it.
-#[derive(Drop)]
+#[derive(Clone, Copy)]
 struct Attempt {
     tree: Tree,
     zeros: Zeros,

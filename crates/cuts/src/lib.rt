@@ -10,14 +10,14 @@ ghost use Rattle.cuts.specs.Lookups.{Ascending, Sought, above, end_of, lower_bou
 use basics::wide_entry;
 
 // A run of cut numbers, from `first` up to and without `end`; none where the two are equal.
-#[derive(Drop)]
+#[derive(Clone, Copy)]
 pub struct Run {
     pub first: usize,
     pub end: usize,
 }
 
 // One column's cuts, borrowed: it serves the two lookups.
-#[derive(Drop)]
+#[derive(Clone, Copy)]
 pub struct CutReader<'a> {
     pub places: &'a [u16],
 }

@@ -15,14 +15,14 @@ ghost use Rattle.interval_pruner.specs.Promise.{ResultAdded};
 use basics::wide_word;
 
 // A tried cut, by its number, if there is one.
-#[derive(Drop)]
+#[derive(Clone, Copy)]
 pub enum Tried {
     Nothing,
     Cut(usize),
 }
 
 // An interval of cut numbers, both ends in it, and the tried cuts that it remembers on its left and on its right.
-#[derive(Drop)]
+#[derive(Clone, Copy)]
 pub struct Bound {
     pub first: usize,
     pub last: usize,
@@ -31,21 +31,21 @@ pub struct Bound {
 }
 
 // What shrinking leaves of an interval.
-#[derive(Drop)]
+#[derive(Clone, Copy)]
 pub enum Shrunk {
     Dropped,
     To(Bound),
 }
 
 // The highest tried cut with left error 0, and the lowest with right error 0.
-#[derive(Drop)]
+#[derive(Clone, Copy)]
 pub struct Zeros {
     pub left: Tried,
     pub right: Tried,
 }
 
 // Where the part above a tried cut begins, and where the part below it ends.
-#[derive(Drop)]
+#[derive(Clone, Copy)]
 pub struct Parts {
     pub upper: usize,
     pub lower: usize,

@@ -8,14 +8,14 @@ use basics::wide_word;
 use interval_pruner::{Bound, Tried};
 
 // Where the first interval stands, and how many wait.
-#[derive(Drop)]
+#[derive(Clone, Copy)]
 pub struct Queue {
     pub head: usize,
     pub waiting: usize,
 }
 
 // The first interval, and the queue without it.
-#[derive(Drop)]
+#[derive(Clone, Copy)]
 pub struct Popped {
     pub bound: Bound,
     pub queue: Queue,

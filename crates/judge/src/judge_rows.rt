@@ -13,20 +13,20 @@ use sheet::Size;
 use tree::{Leaf, Question, Side, Tree};
 
 // What came to a leaf: its mistakes.
-#[derive(Drop)]
+#[derive(Clone, Copy)]
 pub struct Reached {
     pub wrong: u32,
 }
 
 // What came to each leaf of a side.
-#[derive(Drop)]
+#[derive(Clone, Copy)]
 pub enum Wrong {
     AtLeaf(Reached),
     AtSplit(Reached, Reached),
 }
 
 // The mistakes of a tree, in all and at each leaf, and its support.
-#[derive(Drop)]
+#[derive(Clone, Copy)]
 pub struct Judgement {
     pub mistakes: u32,
     pub left: Wrong,
@@ -35,7 +35,7 @@ pub struct Judgement {
 }
 
 // The rows that came to a side so far, and what came to its left and its right leaf. A side that is a leaf has the left one only.
-#[derive(Drop)]
+#[derive(Clone, Copy)]
 pub struct Seen {
     pub rows: u32,
     pub left: Reached,
@@ -43,7 +43,7 @@ pub struct Seen {
 }
 
 // What was seen of the two sides of the first question.
-#[derive(Drop)]
+#[derive(Clone, Copy)]
 pub struct Passed {
     pub left: Seen,
     pub right: Seen,

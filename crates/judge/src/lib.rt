@@ -17,7 +17,7 @@ use crate::judge_rows::Judgement;
 use sheet::Size;
 use tree::{Side, Tree};
 
-#[derive(Drop)]
+#[derive(Clone, Copy)]
 pub enum Verdict {
     TurnedBack { number: u32, place: usize },
     Judged(Judgement),

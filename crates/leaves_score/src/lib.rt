@@ -15,7 +15,7 @@ use sheet::Size;
 use tree::Side;
 
 // The two sides of a root split.
-#[derive(Drop)]
+#[derive(Clone, Copy)]
 pub struct Sides {
     pub left: Side,
     pub right: Side,

@@ -11,14 +11,14 @@ use side_scan::SideScan;
 pub(crate) const SIDES: usize = 2;
 
 // The scans of the two sides, which go through a column together.
-#[derive(Drop)]
+#[derive(Clone, Copy)]
 pub struct Two {
     pub left: SideScan,
     pub right: SideScan,
 }
 
 // The rows of the two sides: of each label and in all, `own` and `size` of the left one, `other` and `rest` of the right one.
-#[derive(Drop)]
+#[derive(Clone, Copy)]
 pub struct Parted {
     pub own: [u16; MOST_LABELS],
     pub size: u32,

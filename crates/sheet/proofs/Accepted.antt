@@ -1,12 +1,12 @@
 -- An accepted sheet is sound. No condition holds of it, so each thing that the search goes by is the opposite of one. Assumes nothing.
-use mathlib.Core.Path.{◌≡◌, refl, sym, subst}
+use mathlib.Core.Path.{◌≡◌, refl, subst}
 use mathlib.Core.Logic.{inl, inr}
-use Prim.Native.Nat.{ℕ, zero, suc, ◌+◌, ◌-◌, ◌*◌, ◌≤◌, ◌<◌}
+use Prim.Native.Nat.{ℕ, suc, ◌+◌, ◌-◌, ◌*◌, ◌≤◌, ◌<◌}
 use native.Mathlib.Omega.{arith}
 use mathlib.Core.Bool.{Bool, true, false, not}
 use lib.Dec.{T, T_not, not_T}
 use lib.Ieee.{binary64, fits, lt}
-use Rattle.basics.proofs.Choice.{order, reach}
+use Rattle.basics.proofs.Choice.{order}
 use Rattle.basics.proofs.Lists.{never_falls}
 use Rattle.threshold.specs.Order.{comparable, key}
 use Rattle.threshold.proofs.Keys.{not-lt→}

@@ -8,7 +8,7 @@ ghost use Rattle.sheet.specs.Sheet.{value_listed};
 use basics::{wide_byte, wide_entry};
 
 // The numbers of a sheet; they may hold anything until the check has accepted them.
-#[derive(Drop)]
+#[derive(Clone, Copy)]
 pub struct Size {
     pub rows: usize,
     pub columns: usize,
@@ -16,7 +16,7 @@ pub struct Size {
 }
 
 // The numbers of a search.
-#[derive(Drop)]
+#[derive(Clone, Copy)]
 pub struct Terms {
     pub support: u32,
     pub gap: u32,
@@ -24,7 +24,7 @@ pub struct Terms {
     pub bound: u32,
 }
 
-#[derive(Drop)]
+#[derive(Clone, Copy)]
 pub enum Checked {
     Accepted,
     // the reason's number, and the place that it reports

@@ -23,7 +23,7 @@ use sheet::{
 };
 
 // The numbers of the header.
-#[derive(Drop)]
+#[derive(Clone, Copy)]
 pub struct Head {
     pub rows: usize,
     pub columns: usize,
@@ -34,7 +34,7 @@ pub struct Head {
     pub bound: u32,
 }
 
-#[derive(Drop)]
+#[derive(Clone, Copy)]
 pub enum Read {
     Refused { number: u32, place: usize },
     Sheet { head: Head },

@@ -6,7 +6,7 @@ ghost use Rattle.side_scan.specs.Counts.{Countable, peaks_of, peak_of};
 use sheet::MOST_LABELS;
 
 // The best counts of the labels before a cut and from it on, and the labels that have them.
-#[derive(Drop)]
+#[derive(Clone, Copy)]
 pub struct Peaks {
     pub before: u32,
     pub left: usize,
@@ -15,7 +15,7 @@ pub struct Peaks {
 }
 
 // A label, and how many rows it has.
-#[derive(Drop)]
+#[derive(Clone, Copy)]
 pub struct Peak {
     pub label: usize,
     pub count: u32,

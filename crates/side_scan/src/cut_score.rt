@@ -7,7 +7,7 @@ use crate::best_counts::Peaks;
 use tree::{Leaf, Question};
 
 // The best that a side has found: the rows that it gets right, and the split that does. Before a split is taken only the score is read.
-#[derive(Drop)]
+#[derive(Clone, Copy)]
 pub struct Best {
     pub score: u32,
     pub question: Question,
@@ -16,7 +16,7 @@ pub struct Best {
 }
 
 // What a scored cut comes to: whether its split is taken, its total, the new skip, and whether the side closes.
-#[derive(Drop)]
+#[derive(Clone, Copy)]
 pub struct CutVerdict {
     pub taken: bool,
     pub total: u32,

@@ -17,7 +17,7 @@ use tree::{Leaf, Question, Side};
 // The scan of one side. Its own rows: how many of each label, how many in all, how many labels the sheet has, and how many rows each part of a
 // split must have. Then the best found, and where the scan of the column at hand stands: rows counted of each label and in all, the rows
 // still to skip, whether the side is closed, and the previous row's value, if `started` says that there was one.
-#[derive(Drop)]
+#[derive(Clone, Copy)]
 pub struct SideScan {
     pub own: [u16; MOST_LABELS],
     pub size: u32,
