@@ -59,17 +59,17 @@ rows_ready s marks h =
     unlabelled : (r : ℕ) → r < s.rows → get_or s.codes r 0 < s.labels
     unlabelled r k = unfold label_of in h.labelled r k
 
-abbrev invariant_loop : tie.invariant_loop
+abbrev invariant_loop : tie.invariant-loop-column
 invariant_loop size support values codes order marks least both₀ column₀ both column = Scanning (scan_sheet size values codes order) support (go_left marks) column both
 
-abbrev decreases_loop : tie.decreases_loop
+abbrev decreases_loop : tie.decreases-loop-column
 decreases_loop size support values codes order marks least both₀ column₀ both column = size.columns - column
 
-part_rows_requires : tie.Need-part-rows-requires invariant_loop decreases_loop
+part_rows_requires : tie.Need-part_rows-parted-requires invariant_loop decreases_loop
 part_rows_requires c κs = rows_ready _ _ c.before.before.before.before.requires
 
 -- after the rows are parted
-module _ (c : tie.After-part-rows invariant_loop decreases_loop) where
+module _ (c : tie.After-part_rows-parted invariant_loop decreases_loop) where
   abbrev start : tie.Start invariant_loop decreases_loop
   start = c.before.before.before.before.before
 
@@ -79,54 +79,53 @@ module _ (c : tie.After-part-rows invariant_loop decreases_loop) where
   abbrev marks : List ℕ
   marks = start.args.marks.now
 
-loop_holds : tie.Need-loop-init invariant_loop decreases_loop
+loop_holds : tie.Need-loop-column-init invariant_loop decreases_loop
 loop_holds c =
     let q = c.before.before.before.before.before in
     let a = (start q).args in
     let n = c.before.before.before.before in
-    begins (sheet q) a.support (go_left (marks q)) (record { left = c.before.begin.result; right = c.begin2.result })
-    (begun a.size a.values.now a.codes.now a.order.now a.marks.now a.support q.part-rows.result n.least-rows.result c.before.begin.result c.begin2.result
-    q.part-rows.ensures n.least-rows.ensures c.before.begin.ensures c.begin2.ensures)
+    begins (sheet q) a.support (go_left (marks q)) (record { left = c.before.begin-left.result; right = c.begin-right.result })
+    (begun a.size a.values.now a.codes.now a.order.now a.marks.now a.support q.part_rows-parted.result n.least_rows-least.result c.before.begin-left.result c.begin-right.result
+    q.part_rows-parted.ensures n.least_rows-least.ensures c.before.begin-left.ensures c.begin-right.ensures)
 
 -- at a column
-module _ (c : tie.Then1 invariant_loop decreases_loop) where
-  abbrev head : tie.At-loop invariant_loop decreases_loop
+module _ (c : tie.In-loop-column invariant_loop decreases_loop) where
+  abbrev head : tie.At-loop-column invariant_loop decreases_loop
   head = c.before.before
 
-  abbrev parted : tie.After-part-rows invariant_loop decreases_loop
+  abbrev parted : tie.After-part_rows-parted invariant_loop decreases_loop
   parted = head.before.before.before.before.before.before
 
-  ready : ReadyColumn (sheet parted) (marks parted) head.loop.column head.loop.both
-  ready = ready_column (sheet parted) (start parted).args.support (marks parted) (start parted).pre head.loop.column head.loop.both c.if1.true head.loop.inv.both
+  ready : ReadyColumn (sheet parted) (marks parted) head.loop-column.column head.loop-column.both
+  ready = ready_column (sheet parted) (start parted).args.support (marks parted) (start parted).requires head.loop-column.column head.loop-column.both c.loop-column-test.true head.loop-column.invariant.both
 
-scan_column_requires : tie.Need-scan-column-requires invariant_loop decreases_loop
+scan_column_requires : tie.Need-scan_column-both-requires invariant_loop decreases_loop
 scan_column_requires c κs = ready c
 
-loop_again : tie.Need-loop-preserved invariant_loop decreases_loop
+loop_again : tie.Need-loop-column-preserved invariant_loop decreases_loop
 loop_again c =
     let d = c.before.before in
     let t = d.before in
     let q = parted t in
-    goes_on (sheet q) (start q).args.support (go_left (marks q)) (head t).loop.column (head t).loop.both (head t).loop.invariant t.if1.true d.scan-column.result d.scan-column.ensures
-    (sym c.before.is-perfect.ensures ∙ c.if2.false)
+    goes_on (sheet q) (start q).args.support (go_left (marks q)) (head t).loop-column.column (head t).loop-column.both (head t).loop-column.invariant t.loop-column-test.true d.scan_column-both.result d.scan_column-both.ensures
+    (sym c.before.is_perfect.ensures ∙ c.if-is_perfect.false)
 
-returns : tie.Need-returns invariant_loop decreases_loop
+returns : tie.Need-returns-after-loop-column invariant_loop decreases_loop
 returns c =
     let h = c.before.before in
     let q = h.before.before.before.before.before.before in
-    finished (sheet q) (start q).args.support (go_left (marks q)) h.loop.column h.loop.both h.loop.invariant c.if1.false
+    finished (sheet q) (start q).args.support (go_left (marks q)) h.loop-column.column h.loop-column.both h.loop-column.invariant c.loop-column-test.false
 
-returns_2 : tie.Need-returns-2 invariant_loop decreases_loop
+returns_2 : tie.Need-returns-then-is_perfect invariant_loop decreases_loop
 returns_2 c =
     let d = c.before.before in
     let t = d.before in
     let q = parted t in
-    stops (sheet q) (start q).args.support (go_left (marks q)) (head t).loop.column (head t).loop.both (head t).loop.invariant t.if1.true d.scan-column.result d.scan-column.ensures
-    (sym c.before.is-perfect.ensures ∙ c.if2.true)
+    stops (sheet q) (start q).args.support (go_left (marks q)) (head t).loop-column.column (head t).loop-column.both (head t).loop-column.invariant t.loop-column-test.true d.scan_column-both.result d.scan_column-both.ensures
+    (sym c.before.is_perfect.ensures ∙ c.if-is_perfect.true)
 
 pub scan_columns_spec : {M : Type 1} → statement M
 scan_columns_spec =
     tie.close
     (tie.spec
-    invariant_loop decreases_loop part_rows_requires (λ c κs. search rules) (λ c κs. search rules) (λ c κs. search rules) loop_holds scan_column_requires
-    (λ c. search rules) (λ c κs. search rules) (λ c. search rules) loop_again returns returns_2)
+    invariant_loop decreases_loop part_rows_requires (λ c κs. search rules) (λ c κs. search rules) (λ c κs. search rules) loop_holds scan_column_requires (λ c. search rules) (λ c κs. search rules) (λ c. search rules) loop_again returns returns_2)

@@ -25,13 +25,13 @@ parted codes marks rows own size theirs rest l r =
       size_is codes (other (go_left marks)) rows theirs rest r,
     )
 
-abbrev invariant_loop : tie.invariant_loop
+abbrev invariant_loop : tie.invariant-loop-row
 invariant_loop rows codes marks counts₀ rest₀ row₀ counts rest row = Parting codes marks rows row counts rest
 
-abbrev decreases_loop : tie.decreases_loop
+abbrev decreases_loop : tie.decreases-loop-row
 decreases_loop rows codes marks counts₀ rest₀ row₀ counts rest row = rows - row
 
-loop_holds : tie.Need-loop-init invariant_loop decreases_loop
+loop_holds : tie.Need-loop-row-init invariant_loop decreases_loop
 loop_holds c =
     record {
       within = omega arith;
@@ -41,8 +41,8 @@ loop_holds c =
     }
 
 -- at a row
-module _ (c : tie.After-wide-word invariant_loop decreases_loop) where
-  abbrev head : tie.At-loop invariant_loop decreases_loop
+module _ (c : tie.After-wide_word-side invariant_loop decreases_loop) where
+  abbrev head : tie.At-loop-row invariant_loop decreases_loop
   head = c.before.before.before.before.before
 
   abbrev start : tie.Start invariant_loop decreases_loop
@@ -51,88 +51,88 @@ module _ (c : tie.After-wide-word invariant_loop decreases_loop) where
   abbrev marks : List ℕ
   marks = start.args.marks.now
 
-  test : head.loop.row < start.args.rows
-  test = c.before.before.before.before.loop-test.true
+  test : head.loop-row.row < start.args.rows
+  test = c.before.before.before.before.loop-row-test.true
 
-  label_in : c.before.before.wide-byte.result < 32
-  label_in = subst (λ (l : ℕ). l < 32) (sym c.before.before.wide-byte.ensures) (start.pre.labelled head.loop.row test)
+  label_in : c.before.before.wide_byte-label.result < 32
+  label_in = subst (λ (l : ℕ). l < 32) (sym c.before.before.wide_byte-label.ensures) (start.requires.labelled head.loop-row.row test)
 
-  side_is : c.wide_word.result ≡ get_or marks head.loop.row 0
-  side_is = c.wide_word.ensures.0
+  side_is : c.wide_word-side.result ≡ get_or marks head.loop-row.row 0
+  side_is = c.wide_word-side.ensures.0
 
-  side_in : c.wide_word.result < 2
-  side_in = subst (λ (k : ℕ). k < 2) (sym side_is) (start.pre.numbered head.loop.row test)
+  side_in : c.wide_word-side.result < 2
+  side_in = subst (λ (k : ℕ). k < 2) (sym side_is) (start.requires.numbered head.loop-row.row test)
 
-mul_counts : tie.Need-overflow-mul-counts invariant_loop decreases_loop
+mul_counts : tie.Need-offset_bounds-counts-side invariant_loop decreases_loop
 mul_counts c = record { fits = omega (arith, side_in c) }
 
-mul_counts_2 : tie.Need-overflow-mul-counts-2 invariant_loop decreases_loop
+mul_counts_2 : tie.Need-offset_bounds-counts-label invariant_loop decreases_loop
 mul_counts_2 c = record { fits = omega (arith, label_in c) }
 
-index_1_counts : tie.Need-bounds-1-counts invariant_loop decreases_loop
+index_1_counts : tie.Need-bounds-counts-side invariant_loop decreases_loop
 index_1_counts c = side_in c
 
-index_2_counts : tie.Need-bounds-2-counts invariant_loop decreases_loop
+index_2_counts : tie.Need-bounds-counts-label invariant_loop decreases_loop
 index_2_counts c = label_in c
 
-add_counts : tie.Need-overflow-add-counts invariant_loop decreases_loop
+add_counts : tie.Need-overflow_add-counts invariant_loop decreases_loop
 add_counts c =
     let r = c.before in
-    let h = (head r).loop in
-    record { fits = omega (arith, met (start r).args.codes.now (marks r) (start r).args.rows h.row h.counts h.rest h.inv r.wide_word.result r.before.before.wide-byte.result (side_in r) (label_in r), test r, (start r).requires.few) }
+    let h = (head r).loop-row in
+    record { fits = omega (arith, met (start r).args.codes.now (marks r) (start r).args.rows h.row h.counts h.rest h.invariant r.wide_word-side.result r.before.before.wide_byte-label.result (side_in r) (label_in r), test r, (start r).requires.few) }
 
-mul_counts_3 : tie.Need-overflow-mul-counts-3 invariant_loop decreases_loop
+mul_counts_3 : tie.Need-offset_bounds-counts-side-in-loop-row invariant_loop decreases_loop
 mul_counts_3 c = record { fits = omega (arith, side_in c.before) }
 
-mul_counts_4 : tie.Need-overflow-mul-counts-4 invariant_loop decreases_loop
+mul_counts_4 : tie.Need-offset_bounds-counts-label-in-loop-row invariant_loop decreases_loop
 mul_counts_4 c = record { fits = omega (arith, label_in c.before) }
 
-index_1_counts_2 : tie.Need-bounds-1-counts-2 invariant_loop decreases_loop
+index_1_counts_2 : tie.Need-bounds-counts-side-in-loop-row invariant_loop decreases_loop
 index_1_counts_2 c = side_in c.before
 
-index_2_counts_2 : tie.Need-bounds-2-counts-2 invariant_loop decreases_loop
+index_2_counts_2 : tie.Need-bounds-counts-label-in-loop-row invariant_loop decreases_loop
 index_2_counts_2 c = label_in c.before
 
-shared_slice_read_rest : tie.Need-shared-slice-read-rest invariant_loop decreases_loop
-shared_slice_read_rest c = omega (arith, test c.before.before, (start c.before.before).pre.marked)
+shared_slice_read_rest : tie.Need-bounds-marks-row-in-loop-row invariant_loop decreases_loop
+shared_slice_read_rest c = omega (arith, test c.before.before, (start c.before.before).requires.marked)
 
-add_rest : tie.Need-overflow-add-rest invariant_loop decreases_loop
+add_rest : tie.Need-overflow_add-rest invariant_loop decreases_loop
 add_rest c =
     let r = c.before.before in
-    let h = (head r).loop in
-    record { fits = omega (arith, side_is r, side_in r, right_few (start r).args.codes.now (marks r) (start r).args.rows h.row h.counts h.rest h.inv, test r, (start r).requires.few) }
+    let h = (head r).loop-row in
+    record { fits = omega (arith, side_is r, side_in r, right_few (start r).args.codes.now (marks r) (start r).args.rows h.row h.counts h.rest h.invariant, test r, (start r).requires.few) }
 
-add_row : tie.Need-overflow-add-row invariant_loop decreases_loop
-add_row c = record { fits = omega (arith, test c.before.before, (start c.before.before).pre.few) }
+add_row : tie.Need-overflow_add-row invariant_loop decreases_loop
+add_row c = record { fits = omega (arith, test c.before.before, (start c.before.before).requires.few) }
 
-loop_less : tie.Need-loop-smaller invariant_loop decreases_loop
+loop_less : tie.Need-loop-row-smaller invariant_loop decreases_loop
 loop_less c = omega (arith, test c.before.before)
 
-loop_again : tie.Need-loop-preserved invariant_loop decreases_loop
+loop_again : tie.Need-loop-row-preserved invariant_loop decreases_loop
 unfolding raised
 loop_again c =
     let r = c.before.before in
-    let h = (head r).loop in
+    let h = (head r).loop-row in
     rw (← side_is r)
-    (parts_on (start r).args.codes.now (marks r) (start r).args.rows h.row h.counts h.rest h.inv (test r) r.before.before.wide-byte.result r.wide_word.result
-    r.before.before.wide-byte.ensures (side_is r) (side_in r))
+    (parts_on (start r).args.codes.now (marks r) (start r).args.rows h.row h.counts h.rest h.invariant (test r) r.before.before.wide_byte-label.result r.wide_word-side.result
+    r.before.before.wide_byte-label.ensures (side_is r) (side_in r))
 
 -- after the loop every row is counted
-module _ (c : tie.After-loop invariant_loop decreases_loop) where
-  all : c.before.loop.row ≡ c.before.before.before.before.args.rows
-  all = omega (arith, c.before.loop.invariant.within)
+module _ (c : tie.After-loop-row invariant_loop decreases_loop) where
+  all : c.before.loop-row.row ≡ c.before.before.before.before.args.rows
+  all = omega (arith, c.before.loop-row.invariant.within)
 
-sub_size : tie.Need-overflow-sub-size invariant_loop decreases_loop
+sub_size : tie.Need-overflow_sub-size invariant_loop decreases_loop
 sub_size c =
     let l = c.before.before.before in
-    let h = l.before.loop in
+    let h = l.before.loop-row in
     let a = l.before.before.before.before.args in
     omega (arith, c.row_count.ensures, all l, right_few a.codes.now a.marks.now a.rows h.row h.counts h.rest h.invariant)
 
 returns : tie.Need-returns invariant_loop decreases_loop
 returns c =
     let l = c.before.before.before in
-    let h = l.before.loop in
+    let h = l.before.loop-row in
     let a = l.before.before.before.before.args in
     let mine : Tallied a.codes.now (go_left a.marks.now) a.rows (get_or h.counts 0 []) (c.row_count.result - h.rest) = rw (c.row_count.ensures, ← all l) h.invariant.left in
     let theirs : Tallied a.codes.now (other (go_left a.marks.now)) a.rows (get_or h.counts 1 []) h.rest = rw (← all l) h.invariant.right in
@@ -142,6 +142,4 @@ pub part_rows_spec : {M : Type 1} → statement M
 part_rows_spec =
     tie.close
     (tie.spec
-    invariant_loop decreases_loop loop_holds (λ c. search rules) (λ c κs. search rules) (λ c. search rules) (λ c. search rules) (λ c κs. search rules) mul_counts
-    mul_counts_2 index_1_counts index_2_counts add_counts mul_counts_3 mul_counts_4 index_1_counts_2 index_2_counts_2 (λ c. search rules)
-    shared_slice_read_rest add_rest add_row loop_less loop_again (λ c. search rules) (λ c. search rules) (λ c κs. search rules) sub_size returns)
+    invariant_loop decreases_loop loop_holds (λ c. search rules) (λ c κs. search rules) (λ c. search rules) (λ c. search rules) (λ c κs. search rules) mul_counts mul_counts_2 index_1_counts index_2_counts add_counts mul_counts_3 mul_counts_4 index_1_counts_2 index_2_counts_2 (λ c. search rules) shared_slice_read_rest add_rest add_row loop_less loop_again (λ c. search rules) (λ c. search rules) (λ c κs. search rules) sub_size returns)
