@@ -1,6 +1,3 @@
 -- Laws of the lookups, for the crates above to cite.
 pub mod Lookups
 pub mod Feasible
-mod Served
-mod Handing
-mod Wrapping

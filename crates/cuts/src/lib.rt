@@ -98,7 +98,7 @@ impl<'a> CutReader<'a> {
     }
 }
 
-// The lookups for callers that have a plain slice: a function with a reader in its hands wants a proof by hand of its own.
+// The lookups for callers that have a plain slice.
 pub fn lower_bound(places: &[u16], first: usize, last: usize, value: usize) -> usize
     ensures { Sought places.now first last (lower_bound_of places.now first last value) result }
 {

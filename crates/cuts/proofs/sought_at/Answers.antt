@@ -1,6 +1,5 @@
 -- `cuts::sought_at` meets its contract. At 0 the first cut passes, if there is one; at any other value the first cut placed there or above is the
--- first one above the number before. Assumes nothing.
-use borrow.Author.Rules.{rules}
+-- first one above the number before.
 use mathlib.Core.Path.{◌≡◌, sym, ap, ◌∙◌}
 use Prim.Native.Nat.{ℕ, ◌-◌, ◌<◌}
 use native.Mathlib.Omega.{arith}
@@ -10,8 +9,7 @@ use lib.Dec.{le→leb}
 use Rattle.basics.specs.Walk.{walk}
 use Rattle.cuts.specs.Lookups.{place, at_least, above, end_of, sought_from, lower_bound_of}
 use Rattle.cuts.proofs.Lookups.{end_high, walk_stays, above_before}
-use Rattle.cuts.proofs.sought_at.Statement.{statement}
-use Rattle.cuts.proofs.sought_at.Tie as tie
+use Rattle.cuts.proofs.sought_at.Goals as goal
 
 module _ (places : List ℕ) (first last value : ℕ) where
   at_zero : value ≡ 0 → first ≡ lower_bound_of places first last value
@@ -26,20 +24,16 @@ module _ (places : List ℕ) (first last value : ℕ) where
       ap (λ (n : ℕ). walk (above places (value - 1)) (n - first) first) e ∙
       ap (λ (ok : ℕ → Bool). walk ok (end_of places first last - first) first) (above_before places value h)
 
-returns : tie.Need-returns
-returns c = ((omega arith, omega arith), λ up. at_zero _ _ _ _ c.if1.true)
+pub returns-then-value-eq0 : goal.returns-then-value-eq0
+returns-then-value-eq0 c = ((omega arith, omega arith), λ up. at_zero _ _ _ _ c.if-value-eq0.true)
 
-first_above_requires : tie.Need-first-above-requires
-first_above_requires c κs =
-    let a = c.before.before.before.args in
-    omega (arith, c.end_of_lem.ensures, end_high a.cuts.now a.first a.last)
+pub first_above-requires : goal.first_above-requires
+first_above-requires c =
+    let a = c.args in
+    omega (arith, c.end_of-end.ensures, end_high a.cuts.now a.first a.last)
 
-returns_2 : tie.Need-returns-2
-returns_2 c =
-    let e = c.before.end_of_lem.ensures in
+pub returns : goal.returns
+returns c =
+    let e = c.end_of-end.ensures in
     let f = c.first_above.ensures in
-    ((f.0.0, omega (arith, f.0.1, e)), λ up. f.1 up ∙ same _ _ _ _ _ e (omega arith))
-
-pub sought_at_spec : {M : Type 1} → statement M
-sought_at_spec =
-    tie.close (tie.spec returns (λ c. search rules) (λ c κs. search rules) first_above_requires returns_2)
+    ((f.inside.0, omega (arith, f.inside.1, e)), λ up. f.found up ∙ same _ _ _ _ _ e (omega arith))

@@ -1,0 +1,30 @@
+-- `cuts::end_of` meets its contract: each arm returns what the definition picks there.
+use mathlib.Core.Path.{◌≡◌, sym, ◌∙◌}
+use Prim.Native.Nat.{suc, ◌+◌, min}
+use native.Mathlib.Omega.{arith}
+use lib.ListN.{length}
+use lib.Dec.{lt→ltb}
+use lib.Arith.{le→nltb}
+use Rattle.basics.proofs.Choice.{pick_true, pick_false}
+use Rattle.cuts.specs.Lookups.{end_of}
+use Rattle.cuts.proofs.end_of.Goals as goal
+
+pub returns-then-last-first : goal.returns-then-last-first
+unfolding end_of
+returns-then-last-first c =
+    let a = c.args in
+    sym (pick_false _ _ (length a.cuts.now) (le→nltb a.first a.last c.if-last-first.true))
+
+pub returns-then-last-count : goal.returns-then-last-count
+unfolding end_of
+returns-then-last-count c =
+    let a = c.args in
+    let e : min (suc a.last) (length a.cuts.now) ≡ a.last + 1 = omega arith in
+    sym (pick_true _ _ _ (lt→ltb a.first a.last c.if-last-first.false) ∙ e)
+
+pub returns-else-last-count : goal.returns-else-last-count
+unfolding end_of
+returns-else-last-count c =
+    let a = c.args in
+    let e : min (suc a.last) (length a.cuts.now) ≡ length a.cuts.now = omega arith in
+    sym (pick_true _ _ _ (lt→ltb a.first a.last c.if-last-first.false) ∙ e)
