@@ -1,13 +1,11 @@
--- `interval_pruner::neighbourhood_pruning::past_zero` meets its contract: it goes by the definition's two cases. Assumes nothing.
-use borrow.Author.Rules.{rules}
+-- `interval_pruner::neighbourhood_pruning::past_zero` meets its contract: it goes by the definition's two cases.
 use mathlib.Core.Path.{◌≡◌, sym, ap, ◌∙◌, subst}
 use Prim.Native.Nat.{ℕ, suc, ◌<◌, min, max}
 use native.Mathlib.Omega.{arith}
 use Rattle.interval_pruner.specs.declared.Tried.{Tried}
 use Rattle.interval_pruner.specs.declared.Tried.TheVariants.{Nothing, Cut}
 use Rattle.interval_pruner.specs.Pruner.{past, Held}
-use Rattle.interval_pruner.proofs.neighbourhood_pruning.past_zero.Statement.{statement}
-use Rattle.interval_pruner.proofs.neighbourhood_pruning.past_zero.Tie as tie
+use Rattle.interval_pruner.proofs.neighbourhood_pruning.past_zero.Goals as goal
 
 module _ (t : Tried) (first : ℕ) where
   unmarked : t ≡ Nothing → first ≡ past t first
@@ -21,14 +19,9 @@ module _ (t : Tried) (first : ℕ) where
       let f : r ≡ max first (suc k) = omega arith in
       f ∙ sym (ap (λ (u : Tried). past u first) e)
 
-returns : tie.Need-returns
-returns c = λ _. unmarked _ _ c.enum_told.given.1
+pub returns-in-Nothing : goal.returns-in-Nothing
+returns-in-Nothing c = λ _. unmarked _ _ c.in-Nothing.is
 
-returns_2 : tie.Need-returns-2
-returns_2 c =
-    let p = c.before.before.before in
-    λ h. marked _ _ _ p.zero.given.1 _ h _ c.before.after.ensures _ c.larger.ensures
-
-pub past_zero_spec : {M : Type 1} → statement M
-past_zero_spec =
-    tie.close (tie.spec (λ c. search rules) (λ c. search rules) (λ c κs. search rules) (λ c κs. search rules) returns returns_2)
+pub returns-in-Cut : goal.returns-in-Cut
+returns-in-Cut c =
+    λ h. marked _ _ _ c.in-Cut.is _ h _ c.after.ensures _ c.larger.ensures

@@ -1,5 +1,4 @@
--- `interval_pruner::subinterval_pruning::subinterval_pruning` meets its contract: where support is small the test is the definition's. Assumes nothing.
-use borrow.Author.Rules.{rules}
+-- `interval_pruner::subinterval_pruning::subinterval_pruning` meets its contract: where support is small the test is the definition's.
 use mathlib.Core.Path.{◌≡◌, sym, ap, ◌∙◌}
 use Prim.Native.Nat.{ℕ, ◌+◌}
 use mathlib.Core.Bool.{Bool, true, false, ◌&&◌}
@@ -7,8 +6,7 @@ use lib.Dec.{leb}
 use Rattle.interval_pruner.specs.declared.Bound.{Bound}
 use Rattle.interval_pruner.specs.Column.{Column, left_error, right_error}
 use Rattle.interval_pruner.specs.Pruner.{held_error, hopeless}
-use Rattle.interval_pruner.proofs.subinterval_pruning.subinterval_pruning.Statement.{statement}
-use Rattle.interval_pruner.proofs.subinterval_pruning.subinterval_pruning.Tie as tie
+use Rattle.interval_pruner.proofs.subinterval_pruning.subinterval_pruning.Goals as goal
 
 module _ (c : Column) (b : ℕ) (i : Bound) where
   abbrev held : ℕ
@@ -23,20 +21,12 @@ module _ (c : Column) (b : ℕ) (i : Bound) where
   unfolding hopeless
   untested e = sym (ap (λ (s : Bool). s && leb b held) e)
 
-returns : tie.Need-returns
+pub returns-then-small : goal.returns-then-small
 unfolding left_error right_error
-returns c =
+returns-then-small c =
     λ places.
-    let p = c.before.before.before in
-    tested _ _ _ p.before.if1.true p.held.ensures.0 c.before.before.held2.ensures.0
-    c.before.wide_word.ensures.0 c.wide-word2.ensures.0
+    tested _ _ _ c.if-small.true c.held.ensures.value c.held-then-small.ensures.value
+    c.wide_word.ensures.0 c.wide_word-then-small.ensures.0
 
-returns_2 : tie.Need-returns-2
-returns_2 c = λ places. untested _ _ _ c.if1.false
-
-pub subinterval_pruning_spec : {M : Type 1} → statement M
-subinterval_pruning_spec =
-    tie.close
-    (tie.spec
-    (λ c κs. search rules) (λ c κs. search rules) (λ c. search rules) (λ c κs. search rules) (λ c. search rules) (λ c κs. search rules) returns
-    returns_2)
+pub returns : goal.returns
+returns c = λ places. untested _ _ _ c.if-small.false

@@ -1,5 +1,4 @@
--- `interval_pruner::interval_shrinking::up_to` meets its contract: the lookup up to the last cut does for one along the list. Assumes nothing.
-use borrow.Author.Rules.{rules}
+-- `interval_pruner::interval_shrinking::up_to` meets its contract: the lookup up to the last cut does for one along the list.
 use mathlib.Core.Path.{◌≡◌, sym, ap, ◌∙◌}
 use Prim.Native.Nat.{ℕ, ◌≤◌, ◌<◌, min}
 use native.Mathlib.Omega.{arith}
@@ -14,8 +13,7 @@ use Rattle.interval_pruner.specs.declared.Bound.{Bound}
 use Rattle.interval_pruner.specs.declared.Shrunk.TheVariants.{Dropped}
 use Rattle.interval_pruner.specs.Column.{recorded_column}
 use Rattle.interval_pruner.specs.Pruner.{interval_within, end_above}
-use Rattle.interval_pruner.proofs.interval_shrinking.up_to.Statement.{statement}
-use Rattle.interval_pruner.proofs.interval_shrinking.up_to.Tie as tie
+use Rattle.interval_pruner.proofs.interval_shrinking.up_to.Goals as goal
 
 module _ (places : List ℕ) (i : Bound) (x first last : ℕ) where
   near : x < place places first → Dropped ≡ end_above (recorded_column places [] 0 true) i x first last
@@ -29,18 +27,11 @@ module _ (places : List ℕ) (i : Bound) (x first last : ℕ) where
       ap (interval_within i first) (q ∙ ap (min last) p ∙ sought_min (above places x) places first last) ∙
       sym (pick_false (ltb x (place places first)) Dropped _ (le→nltb x (place places first) h))
 
-returns : tie.Need-returns
-returns c = λ up. near _ _ _ _ _ (omega (arith, c.before.place_at.ensures.0, c.if1.true))
+pub returns-then-x-place_at : goal.returns-then-x-place_at
+returns-then-x-place_at c = λ up. near _ _ _ _ _ (omega (arith, c.place_at.ensures.0, c.if-x-place_at.true))
 
-returns_2 : tie.Need-returns-2
-returns_2 c =
-    let p = c.before.before.before in
+pub returns : goal.returns
+returns c =
     λ up.
     c.between.ensures ∙
-    far _ _ _ _ _ (omega (arith, p.before.place_at.ensures.0, p.if1.false)) _ _ (c.before.before.upper_bound.ensures.1 up) c.before.smaller.ensures
-
-pub up_to_spec : {M : Type 1} → statement M
-up_to_spec =
-    tie.close
-    (tie.spec
-    (λ c κs. search rules) returns (λ c κs. search rules) (λ c κs. search rules) (λ c κs. search rules) returns_2)
+    far _ _ _ _ _ (omega (arith, c.place_at.ensures.0, c.if-x-place_at.false)) _ _ (c.upper_bound-end.ensures.1 up) c.smaller.ensures

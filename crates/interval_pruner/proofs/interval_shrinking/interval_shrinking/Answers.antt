@@ -1,5 +1,4 @@
--- `interval_pruner::interval_shrinking::interval_shrinking` meets its contract: its steps are the definition's, one after the other. Assumes nothing.
-use borrow.Author.Rules.{rules}
+-- `interval_pruner::interval_shrinking::interval_shrinking` meets its contract: its steps are the definition's, one after the other.
 use mathlib.Core.Path.{◌≡◌, refl, sym, ap, ◌∙◌}
 use Prim.Native.Nat.{ℕ}
 use mathlib.Core.Bool.{Bool, true}
@@ -11,8 +10,7 @@ use Rattle.interval_pruner.specs.declared.Shrunk.TheVariants.{Dropped, To}
 use Rattle.interval_pruner.specs.Column.{Column, recorded_column}
 use Rattle.interval_pruner.specs.Pruner.{past, short, interval_within, shrunk_of}
 use Rattle.interval_pruner.proofs.Shrinking.{next, left_step, right_step, both_steps, in_steps, not_small}
-use Rattle.interval_pruner.proofs.interval_shrinking.interval_shrinking.Statement.{statement}
-use Rattle.interval_pruner.proofs.interval_shrinking.interval_shrinking.Tie as tie
+use Rattle.interval_pruner.proofs.interval_shrinking.interval_shrinking.Goals as goal
 
 module _ (places table : List ℕ) (gap : ℕ) (small : Bool) (z : Zeros) (b : ℕ) (i : Bound) (e : small ≡ true) where
   abbrev col : Column
@@ -40,37 +38,21 @@ module _ (places table : List ℕ) (gap : ℕ) (small : Bool) (z : Zeros) (b : �
       at_last : (k : Bound) → w ≡ To k → right_step col b k ≡ left
       at_last k d = sym (started ∙ ap (λ (v : Shrunk). next v (right_step col b)) d)
 
-returns : tie.Need-returns
-returns c =
-    let p = c.before.before in
-    λ up. at_first _ _ _ _ _ _ _ p.before.if1.true _ p.between-zeros.ensures c.enum_told.given.1
+pub returns-in_default : goal.returns-in_default
+returns-in_default c = λ up. at_first _ _ _ _ _ _ _ c.if-small.true _ c.between_zeros-cleared.ensures c.in_default.is
 
-returns_2 : tie.Need-returns-2
-returns_2 c =
-    let q = c.before.before in
-    let p = q.before.before in
-    let o = p.before.before in
+pub returns-in_default-started : goal.returns-in_default-started
+returns-in_default-started c =
     λ up.
-    at_second _ _ _ _ _ _ _ o.before.if1.true _ o.between-zeros.ensures _ p.cleared.given.1 _ (q.away-from-left.ensures up)
-    c.enum-told2.given.1
+    at_second _ _ _ _ _ _ _ c.if-small.true _ c.between_zeros-cleared.ensures _ c.in-To.is _ (c.away_from_left-started.ensures up)
+    c.in_default-started.is
 
-returns_3 : tie.Need-returns-3
-returns_3 c =
-    let r = c.before.before in
-    let q = r.before.before in
-    let p = q.before.before in
-    let o = p.before.before in
+pub returns-then-small : goal.returns-then-small
+returns-then-small c =
     λ up.
-    c.away-from-right.ensures up ∙
-    at_last _ _ _ _ _ _ _ o.before.if1.true _ o.between-zeros.ensures _ p.cleared.given.1 _ (q.away-from-left.ensures up)
-    _ r.started.given.1
+    c.away_from_right.ensures up ∙
+    at_last _ _ _ _ _ _ _ c.if-small.true _ c.between_zeros-cleared.ensures _ c.in-To.is _ (c.away_from_left-started.ensures up) _
+    c.in-To-started.is
 
-returns_4 : tie.Need-returns-4
-returns_4 c = λ up. c.between.ensures ∙ sym (not_small _ _ _ _ c.before.if1.false)
-
-pub interval_shrinking_spec : {M : Type 1} → statement M
-interval_shrinking_spec =
-    tie.close
-    (tie.spec
-    (λ c κs. search rules) (λ c. search rules) (λ c. search rules) returns (λ c κs. search rules) (λ c. search rules) (λ c. search rules) returns_2
-    (λ c κs. search rules) returns_3 (λ c κs. search rules) returns_4)
+pub returns : goal.returns
+returns c = λ up. c.between.ensures ∙ sym (not_small _ _ _ _ c.if-small.false)

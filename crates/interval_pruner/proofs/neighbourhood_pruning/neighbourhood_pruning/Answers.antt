@@ -1,5 +1,4 @@
--- `interval_pruner::neighbourhood_pruning::neighbourhood_pruning` meets its contract: its two ends are the definition's. Assumes nothing.
-use borrow.Author.Rules.{rules}
+-- `interval_pruner::neighbourhood_pruning::neighbourhood_pruning` meets its contract: its two ends are the definition's.
 use mathlib.Core.Path.{◌≡◌, ◌∙◌}
 use Prim.Native.Nat.{ℕ, ◌+◌}
 use native.Mathlib.Omega.{arith}
@@ -8,8 +7,7 @@ use mathlib.Core.List.{List, []}
 use Rattle.interval_pruner.specs.declared.Zeros.{Zeros}
 use Rattle.interval_pruner.specs.Column.{recorded_column}
 use Rattle.interval_pruner.specs.Pruner.{upper_from, lower_to, lower_near, parts_of}
-use Rattle.interval_pruner.proofs.neighbourhood_pruning.neighbourhood_pruning.Statement.{statement}
-use Rattle.interval_pruner.proofs.neighbourhood_pruning.neighbourhood_pruning.Tie as tie
+use Rattle.interval_pruner.proofs.neighbourhood_pruning.neighbourhood_pruning.Goals as goal
 
 -- neither end depends on the gap but through the distance
 paired : (places : List ℕ) (gap : ℕ) (small : Bool) (z : Zeros) (excess m first d u l : ℕ) → d ≡ excess + gap
@@ -24,16 +22,9 @@ paired places gap small z excess m first d u l e p q =
       lower = lower_to (recorded_column places [] gap small) z (e i) m first;
     })
 
-returns : tie.Need-returns
+pub returns : goal.returns
 returns c =
-    let p = c.before.before in
-    let a = p.before.before.before.args in
+    let a = c.args in
     λ l.
     paired _ a.gap a.small a.zeros a.excess a.cut a.first _ _ _
-    (omega (arith, p.wide-word2.ensures.0, p.before.wide_word.ensures.0)) (c.before.upper-from.ensures l) (c.lower-to.ensures l.ascending)
-
-pub neighbourhood_pruning_spec : {M : Type 1} → statement M
-neighbourhood_pruning_spec =
-    tie.close
-    (tie.spec
-    (λ c κs. search rules) (λ c κs. search rules) (λ c. search rules) (λ c κs. search rules) (λ c κs. search rules) returns)
+    (omega (arith, c.wide_word-2.ensures.0, c.wide_word.ensures.0)) (c.upper_from.ensures l) (c.lower_to.ensures l.ascending)
