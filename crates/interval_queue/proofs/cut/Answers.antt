@@ -1,12 +1,10 @@
--- `interval_queue::cut` meets its contract. Assumes nothing.
+-- `interval_queue::cut` meets its contract.
 use mathlib.Core.Path.{◌≡◌, refl, ap, ◌∙◌}
 use Prim.Native.Nat.{ℕ, zero, suc, ◌-◌, ◌<◌}
 use native.Mathlib.Omega.{arith}
 use Rattle.interval_pruner.specs.declared.Tried.TheVariants.{Nothing, Cut}
 use Rattle.interval_queue.specs.Ring.{tried_in}
-use borrow.Author.Rules.{rules}
-use Rattle.interval_queue.proofs.cut.Statement.{statement}
-use Rattle.interval_queue.proofs.cut.Tie as tie
+use Rattle.interval_queue.proofs.cut.Goals as goal
 
 none_of : (w : ℕ) → w ≡ 0 → Nothing ≡ tried_in w
 unfolding tried_in
@@ -21,11 +19,8 @@ cut_of (suc k) h = ap Cut (back k)
     back : (k : ℕ) → suc k - 1 ≡ k
     back k = omega arith
 
-returns : tie.Need-returns
-returns c = none_of c.before.args.word (omega arith)
+pub returns-then-word-eq0 : goal.returns-then-word-eq0
+returns-then-word-eq0 c = none_of c.args.word (omega arith)
 
-returns_2 : tie.Need-returns-2
-returns_2 c = ap (λ (n : ℕ). Cut (n - 1)) c.wide_word.ensures.0 ∙ cut_of c.before.before.args.word (omega arith)
-
-pub cut_spec : {M : Type 1} → statement M
-cut_spec = tie.close (tie.spec (λ c κs. search rules) (λ c. search rules) returns returns_2)
+pub returns-else-word-eq0 : goal.returns-else-word-eq0
+returns-else-word-eq0 c = ap (λ (n : ℕ). Cut (n - 1)) c.wide_word.ensures.0 ∙ cut_of c.args.word (omega arith)
