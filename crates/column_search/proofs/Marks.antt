@@ -20,6 +20,7 @@ none_among k = elim [ ]
 
 -- what all tried cuts are, one of them is
 pub all_among : (P : ℕ → Type 0) (k : ℕ) (tried : List ℕ) → All P tried → Among k tried → P k
+all_among P k [] h a = elim a [ ]
 all_among P k (t ∷ tried) h (here e) = subst P e h.0
 all_among P k (t ∷ tried) h (there a) = all_among P k tried h.1 a
 
