@@ -4,8 +4,8 @@ use Prim.Native.Nat.{ℕ, zero, suc, ◌+◌, ◌-◌, ◌/◌, ◌%◌, ◌≤�
 use native.Mathlib.Omega.{arith}
 use native.Mathlib.Nat.{add-zero}
 use mathlib.Core.List.{List, [], ◌∷◌, ◌++◌}
-use lib.ListN.{length, get_or, drop, set, length-append}
-use lib.Seq.{sets, set_comm, drop-cons, drop-length}
+use lib.ListN.{length, set, length-append}
+use lib.Seq.{sets, set_comm}
 use Rattle.digits.specs.Digits.{digit_of, digits_of}
 use Rattle.digits.specs.Put.{Put}
 
@@ -31,20 +31,6 @@ joined {l} {m} {r} {at} {next} {last} {xs} {ys} p q =
 -- one byte
 pub one : (l : List ℕ) (at a : ℕ) → Put l at (a ∷ []) (at + 1) (set l at a)
 one l at a = record { past = omega arith; stored = refl }
-
--- ---- from the first byte on
-
-pub first : (l : List ℕ) (at : ℕ) (text : List ℕ) (done : ℕ) → done < length text
-    → sets l (at + done) (drop done text) ≡ sets (set l (at + done) (get_or text done 0)) (at + (done + 1)) (drop (done + 1) text)
-first l at text done h =
-    let e : suc (at + done) ≡ at + (done + 1) = omega arith in
-    let f : suc done ≡ done + 1 = omega arith in
-    ap (sets l (at + done)) (drop-cons text done 0 h)
-    ∙ ap (λ (i : ℕ). sets (set l (at + done) (get_or text done 0)) i (drop (suc done) text)) e
-    ∙ ap (λ (k : ℕ). sets (set l (at + done) (get_or text done 0)) (at + (done + 1)) (drop k text)) f
-
-pub none_left : (l : List ℕ) (at : ℕ) (text : List ℕ) (done : ℕ) → done ≡ length text → sets l (at + done) (drop done text) ≡ l
-none_left l at text done e = ap (sets l (at + done)) (ap (λ (k : ℕ). drop k text) e ∙ drop-length text)
 
 -- ---- from the last byte back
 

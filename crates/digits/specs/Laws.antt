@@ -26,4 +26,4 @@ HexSays = (bits : ℕ) → bits < 2 ^ 64 → (number_said 16 0 (hex_of bits) ≡
 
 -- the bits that a NaN prints as
 abbrev pub NanBits : Type 0
-NanBits = to_bits binary64 nan ≡ 0x7_fF8000000000000
+NanBits = to_bits binary64 nan ≡ 0x7FF8000000000000

@@ -26,7 +26,7 @@ pub record ListingEntry : Type 0 where
 unfoldable pub entry1 : ListingEntry
 entry1 =
     record {
-      answer = Found (record { question = at 0x4004000000000000; left = Split (at 0x3_fF8000000000000) (score_line 0 0) (score_line 1 0); right = Split (at 0x400_c000000000000) (score_line 0 0) (score_line 1 0); error = 0 }) 1;
+      answer = Found (record { question = at 0x4004000000000000; left = Split (at 0x3FF8000000000000) (score_line 0 0) (score_line 1 0); right = Split (at 0x400C000000000000) (score_line 0 0) (score_line 1 0); error = 0 }) 1;
       text =
           70 ∷ 79 ∷ 85 ∷ 78 ∷ 68 ∷ 32 ∷ 101 ∷ 114 ∷ 114 ∷ 111 ∷ 114 ∷ 61 ∷ 48 ∷ 32 ∷ 99 ∷ 111 ∷ 108 ∷ 117 ∷ 109 ∷ 110 ∷ 61 ∷ 48 ∷ 32 ∷ 97 ∷ 116 ∷ 61 ∷ 52 ∷ 48 ∷ 48 ∷ 52 ∷ 48 ∷ 48 ∷ 48 ∷ 48 ∷ 48 ∷ 48 ∷ 48 ∷ 48 ∷ 48 ∷ 48 ∷ 48 ∷ 48 ∷ 32 ∷ 116 ∷ 114 ∷ 105 ∷ 101 ∷ 100 ∷ 61 ∷ 49 ∷ 10 ∷
           76 ∷ 32 ∷ 83 ∷ 80 ∷ 76 ∷ 73 ∷ 84 ∷ 32 ∷ 99 ∷ 111 ∷ 108 ∷ 117 ∷ 109 ∷ 110 ∷ 61 ∷ 48 ∷ 32 ∷ 97 ∷ 116 ∷ 61 ∷ 51 ∷ 70 ∷ 70 ∷ 56 ∷ 48 ∷ 48 ∷ 48 ∷ 48 ∷ 48 ∷ 48 ∷ 48 ∷ 48 ∷ 48 ∷ 48 ∷ 48 ∷ 48 ∷ 32 ∷ 108 ∷ 101 ∷ 102 ∷ 116 ∷ 61 ∷ 48 ∷ 47 ∷ 48 ∷ 32 ∷ 114 ∷ 105 ∷ 103 ∷ 104 ∷ 116 ∷ 61 ∷ 49 ∷ 47 ∷ 48 ∷ 10 ∷
