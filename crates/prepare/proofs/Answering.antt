@@ -10,7 +10,6 @@ use lib.Dec.{T, ltb, eqb, eqb→eq}
 use lib.Ieee.{Float, nan, binary64, fits}
 use borrow.Author.Tests.{eqb-true, ltb-false, lt-ltb, le-ltb, eq-eqb, ne_eqb}
 use Rattle.basics.specs.Choice.{pick}
-use Rattle.basics.specs.Walk.{walk}
 use Rattle.basics.proofs.Choice.{and_left, and_right}
 use Rattle.basics.proofs.Walk.{walked, walk_unique}
 use Rattle.threshold.proofs.Keys.{finite_comparable}
