@@ -7,10 +7,10 @@ use native.Mathlib.Nat.{div-add-mod', div-lt_iff_lt-mul, mod-lt}
 use mathlib.Core.Bool.{Bool, not}
 use mathlib.Core.List.{List, []}
 use lib.ListN.{length, get_or}
-use lib.Dec.{T, T_not, leb, eqb, nleb→lt, eqb→eq, eqb_refl}
+use lib.Dec.{T, T_not, leb, nleb→lt}
 use lib.Ieee.{Float, nan, inf, fin, binary64, fits, le, is_nan}
 use Rattle.basics.specs.Walk.{walk}
-use Rattle.basics.proofs.Choice.{reach, and_left, and_right, and_both, nor_left, nor_right, not_not}
+use Rattle.basics.proofs.Choice.{and_left, and_right, and_both, nor_left, nor_right, not_not}
 use Rattle.basics.proofs.Lists.{table_place, never_falls}
 use Rattle.threshold.specs.Order.{key, comparable, is_at_most}
 use Rattle.threshold.specs.Threshold.{within, lowest_value, largest_value}

@@ -11,7 +11,7 @@ use sheet::Size;
 // the column's mark as it is met: no column before this one has that mark, so nothing is cleared between columns.
 fn first_bad_place(size: Size, order: &[u16], column: usize, marks: &mut [u32]) -> usize
     requires { Columned size column × (length order.now ≡ size.columns * size.rows) × (size.rows ≤ length marks.old) × ((r : ℕ) → get_or marks.old r 0 ≤ column) }
-    ensures { result ≡ walk (bad_order (sheet_of size [] [] order.now [] []) column) size.rows 0) × ((r : ℕ) → get_or marks.new r 0 ≤ column + 1 }
+    ensures { (result ≡ walk (bad_order (sheet_of size [] [] order.now [] []) column) size.rows 0) × ((r : ℕ) → get_or marks.new r 0 ≤ column + 1) }
 {
     let base = column * size.rows;
     let mark = (column + 1) as u32;
