@@ -88,11 +88,11 @@ says label error = record { label = label; error = error }
 unfoldable pub table_t : List Entry
 table_t =
     -- "T1: 1.0, 2.0 gives 1.5."
-    threshold 0x3_fF0000000000000 0x4000000000000000 0x3_fF8000000000000
+    threshold 0x3FF0000000000000 0x4000000000000000 0x3FF8000000000000
     -- "T2: bits 3FF0000000000001 and ..02 give ..01."
-    ∷ threshold 0x3_fF0000000000001 0x3_fF0000000000002 0x3_fF0000000000001
+    ∷ threshold 0x3FF0000000000001 0x3FF0000000000002 0x3FF0000000000001
     -- "T3: 1.0 and 3FF0000000000001 give 1.0."
-    ∷ threshold 0x3_fF0000000000000 0x3_fF0000000000001 0x3_fF0000000000000
+    ∷ threshold 0x3FF0000000000000 0x3FF0000000000001 0x3FF0000000000000
     -- "T4: bits 1 and 2 give bits 1."
     ∷ threshold 1 2 1
     -- "T5: the four-row sheet."

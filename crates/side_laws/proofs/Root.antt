@@ -6,7 +6,7 @@ use native.Mathlib.Omega.{arith}
 use mathlib.Core.Bool.{Bool, true, false, not, ◌&&◌}
 use mathlib.Core.List.{List, [], ◌∷◌}
 use lib.ListN.{length, get_or}
-use lib.Dec.{T, not_T, leb, ltb, eqb, leb→le, le→leb, eqb→eq, eqb_refl}
+use lib.Dec.{T, not_T, leb, ltb, eqb, leb→le, le→leb}
 use lib.Ieee.{Float}
 use Rattle.basics.specs.Choice.{pick, bit}
 use Rattle.basics.specs.Lists.{tally}
