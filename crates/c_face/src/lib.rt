@@ -10,8 +10,7 @@ ghost use Rattle.c_face.specs.Face.{PrepareCalled, CheckCalled, SearchCalled};
 use crate::c_numbers::{COLUMNS, ROWS, size_in, size_number, terms_in};
 
 // The preparer. Numbers: rows, columns.
-#[unsafe(no_mangle)]
-pub extern "C" fn finder_prepare(
+pub fn finder_prepare(
     numbers: &[u32],
     values: &[f64],
     order: &mut [u16],
@@ -29,8 +28,7 @@ pub extern "C" fn finder_prepare(
 }
 
 // The input check. Numbers: rows, columns, labels, support, gap, error, bound.
-#[unsafe(no_mangle)]
-pub extern "C" fn finder_check(
+pub fn finder_check(
     numbers: &[u32],
     values: &[f64],
     codes: &[u8],
@@ -50,8 +48,7 @@ pub extern "C" fn finder_check(
 }
 
 // The search. Numbers: rows, columns, labels, support, gap, error, bound.
-#[unsafe(no_mangle)]
-pub extern "C" fn finder_search(
+pub fn finder_search(
     numbers: &[u32],
     values: &[f64],
     codes: &[u8],
