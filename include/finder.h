@@ -1,5 +1,5 @@
 /*
- * The proved finder's functions for C, of the archive that `rt staticlib c_face` makes (or `oracle/native --lib c_face`, for the machine at hand).
+ * The proved finder's functions for C, of the archive libc_face.a. `oracle/native --lib c_face` makes it: `rt lib` in crates/c_face_c, under that name.
  *
  * A list goes as a pointer and the number of its elements. So many must be there, aligned as their type is, and the pointer must not be NULL, even for
  * no elements. No list that a function writes may overlap another of the same call. That is all that a caller owes: whatever the numbers and the lists

@@ -6,6 +6,7 @@ import importlib.util
 import io
 import math
 import os
+import stat
 import tempfile
 import unittest
 
@@ -40,6 +41,12 @@ def read(path):
 def write(path, data):
     with open(path, "wb") as file:
         file.write(data)
+
+
+def script(path, text):
+    os.makedirs(os.path.dirname(path), exist_ok=True)
+    write(path, text.encode())
+    os.chmod(path, os.stat(path).st_mode | stat.S_IXUSR)
 
 
 def load_command():
