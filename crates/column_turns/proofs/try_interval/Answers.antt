@@ -1,9 +1,8 @@
--- `column_turns::try_interval` meets its contract. The middle of an interval of listed cuts is a listed cut; the rest is `Steps`. Assumes nothing.
+-- `column_turns::try_interval` meets its contract. The middle of an interval of listed cuts is a listed cut; the rest is `Steps`.
 use mathlib.Core.Path.{sym, ap, ◌∙◌, subst}
-use Prim.Native.Nat.{ℕ, ◌+◌}
+use Prim.Native.Nat.{ℕ}
 use native.Mathlib.Omega.{arith}
 use mathlib.Core.List.{List, ◌++◌, []}
-use borrow.Author.Rules.{rules}
 use Rattle.basics.specs.Choice.{pick}
 use Rattle.sheet.specs.Sheet.{Sheet}
 use Rattle.sheet.specs.Check.{sheet_of}
@@ -19,49 +18,48 @@ use Rattle.column_turns.proofs.Lent.{kept_then}
 use Rattle.column_turns.proofs.Places.{placed_in}
 use Rattle.column_turns.proofs.Steps.{matches_next}
 use Rattle.column_turns.proofs.Turns.{to_try, to_part, middle_row}
-use Rattle.column_turns.proofs.try_interval.Statement.{statement}
-use Rattle.column_turns.proofs.try_interval.Tie as tie
+use Rattle.column_turns.proofs.try_interval.Goals as goal
 
-add_cut : tie.Need-overflow-add-cut
-add_cut c =
-    let start = c.before.before.before.before.before.before.before.before.before.before in
+pub overflow_add-cut : goal.overflow_add-cut
+overflow_add-cut c =
+    let start = c in
     let pre = start.requires in
     record { fits = omega (arith, pre.full, pre.till, (pre.whole.sound.column start.args.column pre.here).cuts.count_most, pre.enough.few) }
 
-try_and_keep_requires : tie.Need-try-and-keep-requires
-try_and_keep_requires c κs =
-    let start = c.before.before.before.before.before.before.before.before.before.before.before in
+pub try_and_keep-tried-requires : goal.try_and_keep-tried-requires
+try_and_keep-tried-requires c =
+    let start = c in
     let a = start.args in
     to_try a.size a.values.now a.codes.now a.order.now a.cuts.now a.counts.now a.terms a.column a.scratch.now a.course a.bound start.requires
 
-places_of_requires : tie.Need-places-of-requires
-places_of_requires c κs =
-    let start = c.before.before.before.before.before.before.before.before.before.before.before.before.before.before.before.before.before.before.before in
+pub places_of-places-requires : goal.places_of-places-requires
+places_of-places-requires c =
+    let start = c in
     let a = start.args in
     placed_in a.size a.values.now a.codes.now a.order.now a.cuts.now a.counts.now a.column start.requires.whole start.requires.here
 
-next_queue_requires : tie.Need-next-queue-requires
-next_queue_requires c κs =
-    let start = c.before.before.before.before.before.before.before.before.before.before.before.before.before.before.before.before.before.before.before.before.before in
+pub next_queue-waiting-requires : goal.next_queue-waiting-requires
+next_queue-waiting-requires c =
+    let start = c in
     let a = start.args in
-    let tried = c.before.before.before.before.before.before.before.before.before.try-and-keep in
-    let ys : List ℕ = tried.new.1.1.1.1.1.1.1.1.0 in
+    let tried = c.try_and_keep-tried in
+    let ys : List ℕ = tried.new.scratch in
     subst (λ (l : List ℕ). PartsWaiting a.size.rows l tried.result.zeros a.bound (middle a.bound) a.course.queue ys)
-    (sym (c.before.places_of.ensures a.values.now a.codes.now a.order.now))
+    (sym (c.places_of-places.ensures a.values.now a.codes.now a.order.now))
     (to_part a.size a.values.now a.codes.now a.order.now a.cuts.now a.counts.now a.terms a.column a.scratch.now a.course a.bound start.requires ys tried.result (tried.ensures a.counts.now))
 
-returns : tie.Need-returns
+pub returns : goal.returns
 returns c =
-    let start = c.before.before.before.before.before.before.before.before.before.before.before.before.before.before.before.before.before.before.before.before.before.before.before.before in
+    let start = c in
     let a = start.args in
-    let tried = c.before.before.before.before.before.before.before.before.before.before.before.before.try-and-keep in
-    let ys : List ℕ = tried.new.1.1.1.1.1.1.1.1.0 in
-    let call = c.before.before.next-queue in
-    let zs : List ℕ = call.new.1.1.1.1.1.1.1.1.0 in
-    let next = c.before.before.before.before.before.before.before.improved.ensures in
-    let places = c.before.before.before.before.places_of.ensures a.values.now a.codes.now a.order.now in
-    let reach = c.before.before.before.before.before.reach_of.ensures ∙ ap (λ (z : Standing). reach_of a.terms tried.result.tree.error z.error) next in
-    let over = c.before.before.before.before.before.before.ends-column.ensures in
+    let tried = c.try_and_keep-tried in
+    let ys : List ℕ = tried.new.scratch in
+    let call = c.next_queue-waiting in
+    let zs : List ℕ = call.new.scratch in
+    let next = c.improved-next.ensures in
+    let places = c.places_of-places.ensures a.values.now a.codes.now a.order.now in
+    let reach = c.reach_of-reach.ensures ∙ ap (λ (z : Standing). reach_of a.terms tried.result.tree.error z.error) next in
+    let over = c.ends_column-over.ensures in
     let attempted = tried.ensures a.counts.now in
     let queued = call.ensures in
     let s : Sheet = sheet_of a.size a.values.now a.codes.now a.order.now a.cuts.now a.counts.now in
@@ -77,10 +75,3 @@ returns c =
           matches attempted queued.table_is waiting queued.sane);
       kept = kept_then a.size.rows a.scratch.now ys zs attempted.lent.kept queued.kept;
     }
-
-pub try_interval_spec : {M : Type 1} → statement M
-try_interval_spec =
-    tie.close
-    (tie.spec
-    add_cut try_and_keep_requires (λ c κs. search rules) (λ c κs. search rules) (λ c κs. search rules) places_of_requires next_queue_requires
-    (λ c. search rules) returns)

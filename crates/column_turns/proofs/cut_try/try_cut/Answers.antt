@@ -1,0 +1,91 @@
+-- `column_turns::cut_try::try_cut` meets its contract. The marks say what the cut does, so the scan finds its two sides; their errors together are at most the rows.
+use mathlib.Core.Path.{ap, ◌∙◌}
+use Prim.Native.Nat.{ℕ, ◌+◌}
+use native.Mathlib.Omega.{arith}
+use mathlib.Core.List.{List}
+use Rattle.tree.specs.Answer.{side_error}
+use Rattle.leaves_score.specs.declared.Sides.{Sides}
+use Rattle.leaves_score.specs.Root.{errors_at}
+use Rattle.column_turns.specs.Lent.{marks_of}
+use Rattle.column_turns.specs.Try.{tried_tree, tree_at}
+use Rattle.column_turns.proofs.Lent.{kept_enough, marks_length}
+use Rattle.column_turns.proofs.Try.{tried_cutting, tried_marking, tried_scannable, tried_sides, tried_few}
+use Rattle.column_turns.proofs.cut_try.try_cut.Goals as goal
+
+pub root_question-question-requires : goal.root_question-question-requires
+root_question-question-requires c =
+    let start = c in
+    let a = start.args in
+    tried_cutting a.size a.values.now a.codes.now a.order.now a.cuts.now a.column a.cut a.scratch.now start.requires
+
+pub mark_cut-requires : goal.mark_cut-requires
+mark_cut-requires c =
+    let start = c in
+    let a = start.args in
+    tried_marking a.size a.values.now a.codes.now a.order.now a.cuts.now a.column a.cut a.scratch.now start.requires
+
+pub scan_sides-sides-requires : goal.scan_sides-sides-requires
+scan_sides-sides-requires c =
+    let start = c in
+    let a = start.args in
+    let marked = c.mark_cut in
+    let words : List ℕ = marked.new.scratch in
+    let enough = kept_enough a.size.rows a.scratch.now words start.requires.enough marked.ensures.became.kept in
+    (enough, tried_scannable a.size a.values.now a.codes.now a.order.now a.cuts.now a.column a.cut a.scratch.now start.requires (marks_of a.size.rows words) (marks_length a.size.rows words enough) marked.ensures.marked)
+
+pub side_error-requires : goal.side_error-requires
+side_error-requires c =
+    let start = c in
+    let a = start.args in
+    let marked = c.mark_cut in
+    let words : List ℕ = marked.new.scratch in
+    let sides = c.scan_sides-sides.ensures ∙ tried_sides a.size a.values.now a.codes.now a.order.now a.cuts.now a.column a.cut a.scratch.now start.requires start.requires.counts a.support (marks_of a.size.rows words) marked.ensures.marked in
+    let few = tried_few a.size a.values.now a.codes.now a.order.now a.cuts.now a.column a.cut a.scratch.now start.requires a.support in
+    omega (arith, few, ap (λ (z : Sides). side_error z.left) sides, start.requires.enough.few)
+
+pub side_error-requires-2 : goal.side_error-requires-2
+side_error-requires-2 c =
+    let start = c in
+    let a = start.args in
+    let marked = c.mark_cut in
+    let words : List ℕ = marked.new.scratch in
+    let sides = c.scan_sides-sides.ensures ∙ tried_sides a.size a.values.now a.codes.now a.order.now a.cuts.now a.column a.cut a.scratch.now start.requires start.requires.counts a.support (marks_of a.size.rows words) marked.ensures.marked in
+    let few = tried_few a.size a.values.now a.codes.now a.order.now a.cuts.now a.column a.cut a.scratch.now start.requires a.support in
+    omega (arith, few, ap (λ (z : Sides). side_error z.right) sides, start.requires.enough.few)
+
+pub overflow_add-error : goal.overflow_add-error
+overflow_add-error c =
+    let start = c in
+    let a = start.args in
+    let marked = c.mark_cut in
+    let words : List ℕ = marked.new.scratch in
+    let sides = c.scan_sides-sides.ensures ∙ tried_sides a.size a.values.now a.codes.now a.order.now a.cuts.now a.column a.cut a.scratch.now start.requires start.requires.counts a.support (marks_of a.size.rows words) marked.ensures.marked in
+    let few = tried_few a.size a.values.now a.codes.now a.order.now a.cuts.now a.column a.cut a.scratch.now start.requires a.support in
+    record {
+      fits =
+          omega (
+            arith,
+            few,
+            ap (λ (z : Sides). side_error z.left) sides,
+            ap (λ (z : Sides). side_error z.right) sides,
+            start.requires.enough.few,
+            c.side_error.ensures,
+            c.side_error-2.ensures,
+          );
+    }
+
+pub returns : goal.returns
+unfolding tried_tree tree_at errors_at
+returns c =
+    let start = c in
+    let a = start.args in
+    let marked = c.mark_cut in
+    let words : List ℕ = marked.new.scratch in (
+      (λ counts.
+          let sides = c.scan_sides-sides.ensures ∙ tried_sides a.size a.values.now a.codes.now a.order.now a.cuts.now a.column a.cut a.scratch.now start.requires counts a.support (marks_of a.size.rows words) marked.ensures.marked in
+          let left = c.side_error.ensures ∙ ap (λ (z : Sides). side_error z.left) sides in
+          let right = c.side_error-2.ensures ∙ ap (λ (z : Sides). side_error z.right) sides in
+          let question = c.root_question-question.ensures a.codes.now counts in
+          λ t. record { question = question t; left = (sides t).left; right = (sides t).right; error = left t + right t }),
+      marked.ensures.became,
+    )

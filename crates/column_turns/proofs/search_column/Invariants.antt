@@ -1,0 +1,22 @@
+-- `column_turns::search_column` meets its contract. By whether there is a feasible cut; the loop's invariant: the course stands for a state of the column's run, which may be
+-- counted on. The measure is the weight of what waits.
+use Prim.Native.Nat.{◌*◌, ◌≤◌}
+use Rattle.basics.specs.Lists.{total}
+use Rattle.sheet.specs.Limits.{most_columns}
+use Rattle.sheet.specs.Check.{sheet_of}
+use Rattle.interval_queue.specs.Ring.{contents}
+use Rattle.column_search.specs.Loop.{weight}
+use Rattle.column_turns.specs.Lent.{ring_of, RestKept}
+use Rattle.column_turns.specs.Promise.{most_tries}
+use Rattle.column_turns.specs.Course.{Stands, Begun}
+use Rattle.column_turns.proofs.search_column.Given as goal
+
+abbrev pub invariant-loop-course : goal.invariant-loop-course
+invariant-loop-course l =
+    Begun (sheet_of l.size l.values l.codes l.order l.cuts l.counts) l.terms l.column l.scratch
+    × (l.initial.course.standing.tried ≤ most_columns * most_tries)
+    × Stands (sheet_of l.size l.values l.codes l.order l.cuts l.counts) l.terms l.column l.initial.course.standing l.scratch l.course
+    × RestKept l.size.rows l.initial.scratch l.scratch
+
+abbrev pub decreases-loop-course : goal.decreases-loop-course
+decreases-loop-course l = total weight (contents (ring_of l.size.rows l.scratch) l.course.queue)
