@@ -12,8 +12,6 @@ use lib.Ieee.Bits.{nan_bits_is, nan_bits_above}
 use Rattle.threshold.specs.Threshold.{within}
 use Rattle.sheet_bytes.specs.declared.Head.{Head}
 use Rattle.sheet_bytes.specs.Bytes.{byte_at, number_at}
-use Rattle.sheet.specs.Limits.{most_columns}
-use Rattle.sheet_bytes.specs.Room.{most_read, row_size}
 
 -- ---- one byte more, below those read
 
@@ -52,9 +50,6 @@ and_no a b e = ap (λ (t : Bool). t && b) e
 
 pub product : (m n a b : ℕ) → a ≤ m → b ≤ n → a * b ≤ m * n
 product m n a b h k = mul-le-mul h k
-
-pub start_low : (columns row : ℕ) → columns ≤ most_columns → row ≤ most_read → row * row_size columns ≤ most_read * row_size most_columns
-start_low columns row h k = product most_read (row_size most_columns) row (row_size columns) k (omega arith)
 
 pub in_rows : (index rows : ℕ) → 1 ≤ rows → index % rows < rows
 in_rows index rows h = mod-lt index h

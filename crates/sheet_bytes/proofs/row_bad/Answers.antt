@@ -1,8 +1,7 @@
--- `sheet_bytes::row_bad` meets its contract: each arm is a case of the test. Assumes nothing.
+-- `sheet_bytes::row_bad` meets its contract: each arm is a case of the test.
 use mathlib.Core.Path.{◌≡◌, sym, ap, ◌∙◌}
 use Prim.Native.Nat.{suc, ◌+◌}
 use native.Mathlib.Omega.{arith}
-use borrow.Author.Rules.{rules}
 use lib.ListN.{length}
 use mathlib.Core.Bool.{not}
 use lib.Dec.{ltb}
@@ -10,32 +9,25 @@ use borrow.Author.Tests.{lt-ltb, le-ltb}
 use Rattle.sheet_bytes.specs.Bytes.{marked, row_mark}
 use Rattle.sheet_bytes.specs.Read.{row_start, row_bad}
 use Rattle.sheet_bytes.proofs.Numbers.{or_yes, or_no}
-use Rattle.sheet_bytes.proofs.row_bad.Statement.{statement}
-use Rattle.sheet_bytes.proofs.row_bad.Tie as tie
+use Rattle.sheet_bytes.proofs.row_bad.Goals as goal
 
-returns : tie.Need-returns
+pub returns-then-bytes-start_of : goal.returns-then-bytes-start_of
 unfolding row_bad
-returns c =
-    let a = c.before.before.before.args in
+returns-then-bytes-start_of c =
+    let a = c.args in
     let bytes = a.bytes.now in
     let e : a.row + 1 ≡ suc a.row = omega arith in
     let next : row_start a.head.columns (a.row + 1) ≡ row_start a.head.columns (suc a.row) = ap (row_start a.head.columns) e in
     sym (or_yes (ltb (length bytes) (row_start a.head.columns (suc a.row))) (not (marked row_mark bytes (row_start a.head.columns a.row)))
-    (lt-ltb (length bytes) (row_start a.head.columns (suc a.row)) (omega (arith, next, c.before.start_of_lem.ensures.0))))
+    (lt-ltb (length bytes) (row_start a.head.columns (suc a.row)) (omega (arith, next, c.start_of.ensures.place))))
 
-returns_2 : tie.Need-returns-2
+pub returns-else-bytes-start_of : goal.returns-else-bytes-start_of
 unfolding row_bad
-returns_2 c =
-    let a = c.before.before.before.before.before.args in
+returns-else-bytes-start_of c =
+    let a = c.args in
     let bytes = a.bytes.now in
     let e : a.row + 1 ≡ suc a.row = omega arith in
     let next : row_start a.head.columns (a.row + 1) ≡ row_start a.head.columns (suc a.row) = ap (row_start a.head.columns) e in
-    ap not (c.is-marked.ensures ∙ ap (marked row_mark bytes) c.before.start-of2.ensures.0)
+    ap not (c.is_marked.ensures ∙ ap (marked row_mark bytes) c.start_of-else-bytes-start_of.ensures.place)
     ∙ sym (or_no (ltb (length bytes) (row_start a.head.columns (suc a.row))) (not (marked row_mark bytes (row_start a.head.columns a.row)))
-    (le-ltb (length bytes) (row_start a.head.columns (suc a.row)) (omega (arith, next, c.before.before.before.start_of_lem.ensures.0))))
-
-pub row_bad_spec : {M : Type 1} → statement M
-row_bad_spec =
-    tie.close
-    (tie.spec
-    (λ c. search rules) (λ c κs. search rules) (λ c κs. search rules) (λ c κs. search rules) returns returns_2)
+    (le-ltb (length bytes) (row_start a.head.columns (suc a.row)) (omega (arith, next, c.start_of.ensures.place))))
