@@ -15,7 +15,7 @@ use Rattle.cuts.specs.declared.Run.{Run}
 use Rattle.cuts.specs.Lookups.{place, Ascending}
 use Rattle.cuts.specs.Feasible.{feasible, feasible_of, Exactly}
 use Rattle.cuts.proofs.Feasible.{feasible_exactly}
-use Rattle.interval_pruner.specs.Column.{place_in, left_error, right_error}
+use Rattle.interval_pruner.specs.Column.{left_error, right_error}
 use Rattle.column_search.specs.Laws.{Feasible, Metric}
 use Rattle.leaves_score.specs.Root.{errors_at}
 use Rattle.side_laws.specs.Root.{Moved}

@@ -2,7 +2,6 @@
 use mathlib.Core.Path.{sym, subst}
 use Prim.Native.Nat.{ℕ, zero, suc, ◌+◌, ◌-◌, ◌≤◌, ◌<◌, min}
 use native.Mathlib.Omega.{arith}
-use mathlib.Core.Option.{some}
 use Rattle.basics.proofs.Choice.{by_ltb, by_leb, reach}
 use Rattle.sheet.specs.Sheet.{Sheet, count_of, places_of}
 use Rattle.sheet.specs.Sound.{Sound}
