@@ -3,7 +3,7 @@ use mathlib.Core.Path.{◌≡◌, refl, sym, ◌∙◌, subst}
 use Prim.Native.Nat.{ℕ, zero, suc, ◌*◌, ◌≤◌, ◌<◌}
 use native.Mathlib.Omega.{arith}
 use native.Mathlib.Nat.{mul_comm}
-use mathlib.Core.Bool.{Bool, true, not}
+use mathlib.Core.Bool.{Bool, true, not, false}
 use mathlib.Core.List.{List}
 use lib.ListN.{length, get_or}
 use lib.Dec.{T, nleb→lt}
@@ -37,9 +37,11 @@ all_fit f (suc n) h (suc i) = all_fit (λ k. f (suc k)) n (λ k. h (suc k)) i
 
 is_true : (b : Bool) → T b → b ≡ true
 is_true true t = refl
+is_true false t = elim t [ ]
 
 twice_not : (b : Bool) → T b → T (not (not b))
 twice_not true t = tt
+twice_not false t = elim t [ ]
 
 module _ (bytes : List ℕ) (h : Head) (a : read.Accepted bytes h) where
   abbrev values : List Float
