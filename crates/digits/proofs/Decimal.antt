@@ -1,5 +1,5 @@
 -- How many decimal digits a number has: dividing by ten until nothing is left counts them, since after k divisions n / 10 ^ k is left. Assumes nothing.
-use mathlib.Core.Path.{◌≡◌, refl, sym, ap, ◌∙◌, subst}
+use mathlib.Core.Path.{◌≡◌, sym, ap, ◌∙◌, subst}
 use Prim.Native.Nat.{ℕ, ◌+◌, ◌/◌, ◌^◌, ◌≤◌, ◌<◌}
 use native.Mathlib.Omega.{arith}
 use native.Mathlib.Nat.{one-le-pow, zero-lt-suc, le-div_iff_mul-le, div-lt_iff_lt-mul, div-div-eq-div-mul, pow-suc, one-mul}
@@ -20,9 +20,6 @@ pub record Counting (n count rest : ℕ) : Type 0 where
 
 ten_pos : (k : ℕ) → 0 < 10 ^ k
 ten_pos k = one-le-pow k 10 (zero-lt-suc 9)
-
-pub begun : (n : ℕ) → Counting n 1 (n / 10)
-begun n = record { some = omega arith; most = omega arith; left = refl; above = λ j h g. absurd (omega arith) }
 
 module _ (n count rest : ℕ) (c : Counting n count rest) where
   holds_more : 0 < rest → 10 ^ count ≤ n
