@@ -103,11 +103,16 @@ listed answer shown out after r room e put =
           ∙ sym (pick_true (leb longest (length out)) (text ++ drop (length text) out) out t);
     }
 
-pub left_out : (answer : Answer) (out : List ℕ) → length out < longest → ListedIn answer out 0 out
-unfolding written_of out_of
-left_out answer out short =
-    let t = not_T (leb longest (length out)) (λ (u : _). omega (arith, leb→le longest (length out) u)) in
-    record {
-      says = sym (pick_false (leb longest (length out)) (length (listing_of answer)) 0 t);
-      holds = sym (pick_false (leb longest (length out)) (listing_of answer ++ drop (length (listing_of answer)) out) out t);
-    }
+-- ---- nothing where the memory is short
+
+pub none_written : (answer : Answer) (out : List ℕ) → length out < longest → written_of answer out ≡ 0
+unfolding written_of
+none_written answer out short =
+    pick_false (leb longest (length out)) (length (listing_of answer)) 0
+    (not_T (leb longest (length out)) (λ (u : _). omega (arith, leb→le longest (length out) u)))
+
+pub out_kept : (answer : Answer) (out : List ℕ) → length out < longest → out_of answer out ≡ out
+unfolding out_of
+out_kept answer out short =
+    pick_false (leb longest (length out)) (listing_of answer ++ drop (length (listing_of answer)) out) out
+    (not_T (leb longest (length out)) (λ (u : _). omega (arith, leb→le longest (length out) u)))

@@ -133,6 +133,7 @@ fn put_rule(out: &mut [u8], tree: Tree, tried: u32) -> usize
 }
 
 // The answer's listing at the start of `out`, and its length. Nothing is written where there is no room for every listing.
+#[tactic(auto, using(crate::proofs::Room::none_written, crate::proofs::Room::out_kept))]
 pub fn write_answer(answer: Answer, out: &mut [u8]) -> usize
     ensures { ListedIn answer out.old result out.new }
 {

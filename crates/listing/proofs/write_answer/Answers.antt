@@ -1,11 +1,8 @@
 -- `listing::write_answer` meets its contract: each case is its line or lines, and there is room for them.
 use Rattle.std.proofs.Common.{arith}
 use Rattle.listing.specs.Listing.{kept_of, refused_of, listing_of}
-use Rattle.listing.proofs.Room.{listed, left_out}
+use Rattle.listing.proofs.Room.{listed}
 use Rattle.listing.proofs.write_answer.Goals as goal
-
-pub returns-then-out-lt-LONGEST : goal.returns-then-out-lt-LONGEST
-returns-then-out-lt-LONGEST c = left_out c.args.answer c.args.out.now (omega arith)
 
 pub returns-in-TurnedBack : goal.returns-in-TurnedBack
 unfolding listing_of refused_of
