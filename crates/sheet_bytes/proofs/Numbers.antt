@@ -2,7 +2,7 @@
 use mathlib.Core.Path.{◌≡◌, refl, sym, ap, ◌∙◌, subst}
 use Prim.Native.Nat.{ℕ, suc, ◌+◌, ◌-◌, ◌*◌, ◌/◌, ◌%◌, ◌^◌, ◌≤◌, ◌<◌}
 use native.Mathlib.Omega.{arith}
-use native.Mathlib.Nat.{mul-le-mul, mod-lt, div-lt_iff_lt-mul}
+use native.Mathlib.Nat.{mod-lt, div-lt_iff_lt-mul}
 use mathlib.Core.Bool.{Bool, true, false, not, ◌&&◌, ◌||◌}
 use mathlib.Core.List.{List}
 use lib.Pow.{pow-add, pow_mono}
@@ -47,9 +47,6 @@ pub and_no : (a b : Bool) → a ≡ false → (a && b) ≡ false
 and_no a b e = ap (λ (t : Bool). t && b) e
 
 -- ---- products and places
-
-pub product : (m n a b : ℕ) → a ≤ m → b ≤ n → a * b ≤ m * n
-product m n a b h k = mul-le-mul h k
 
 pub in_rows : (index rows : ℕ) → 1 ≤ rows → index % rows < rows
 in_rows index rows h = mod-lt index h

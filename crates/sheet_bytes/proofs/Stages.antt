@@ -2,7 +2,7 @@
 use mathlib.Core.Path.{◌≡◌, refl, sym, ap, ◌∙◌, subst}
 use Prim.Native.Nat.{ℕ, ◌≤◌, ◌<◌}
 use native.Mathlib.Omega.{arith}
-use mathlib.Core.Bool.{Bool, true, false, not, true≢false}
+use mathlib.Core.Bool.{Bool, true, false, not, ◌||◌, true≢false}
 use mathlib.Core.List.{List}
 use lib.Dec.{T, ltb, nltb→le}
 use borrow.Author.Tests.{lt-ltb, le-ltb}
@@ -19,12 +19,13 @@ use Rattle.sheet.proofs.Answer as answer
 use Rattle.sheet_bytes.specs.declared.Head.{Head}
 use Rattle.sheet_bytes.specs.declared.Read.{Read}
 use Rattle.sheet_bytes.specs.declared.Read.TheVariants.{Refused, Sheet}
-use Rattle.sheet.specs.Reasons.{size_outside, term_above, value_outside, label_high}
+use Rattle.sheet.specs.Reasons.{size_outside, term_above, value_outside, label_high, scratch_short}
 use Rattle.sheet_bytes.specs.Room.{most_read, most_cells}
 use Rattle.sheet_bytes.specs.Reasons.{head_wrong, sheet_large, row_wrong, bytes_left}
-use Rattle.sheet_bytes.specs.Read.{head_of, head_cells, head_bad, size_bad, too_large, row_bad, further, terms_bad, value_bad, code_bad, first_bad, from_codes, from_values, from_terms, from_end, from_rows, from_large, from_size, read_of, value_read}
+use Rattle.sheet_bytes.specs.Read.{head_of, head_cells, head_bad, size_bad, too_large, row_bad, further, terms_bad, value_bad, code_bad, first_bad, from_codes, from_values, from_terms, from_end, from_rows, from_large, from_size, read_of, value_read, read_answer}
 use Rattle.sheet_bytes.specs.Reading.{SmallHead, Valued}
 use Rattle.sheet_bytes.specs.Laws.{Accepted, Accepts}
+use Rattle.sheet_bytes.proofs.Numbers.{or_yes, or_no}
 use Rattle.sheet_bytes.proofs.Find.{none_bad, ends}
 
 -- ---- one test
@@ -187,3 +188,17 @@ terms_limited h t = answer.terms_limited (terms h) (twice_not (terms_hold (terms
 pub valued_accepted : (bytes : List ℕ) (h : Head) → Accepted bytes h → Valued bytes h
 unfolding value_bad
 valued_accepted bytes h a index k = twice_not (within (value_read bytes h index)) (a.values_good index k)
+
+-- ---- memory too short for the largest sheet
+
+pub short_values : (bytes : List ℕ) (values codes : ℕ) → values < most_cells → read_answer bytes values codes ≡ Refused scratch_short 0
+unfolding read_answer
+short_values bytes values codes h =
+    chosen (ltb values most_cells || ltb codes most_read) (Refused scratch_short 0) (read_of bytes)
+    (or_yes (ltb values most_cells) (ltb codes most_read) (lt-ltb values most_cells h))
+
+pub short_codes : (bytes : List ℕ) (values codes : ℕ) → most_cells ≤ values → codes < most_read → read_answer bytes values codes ≡ Refused scratch_short 0
+unfolding read_answer
+short_codes bytes values codes h k =
+    chosen (ltb values most_cells || ltb codes most_read) (Refused scratch_short 0) (read_of bytes)
+    (or_no (ltb values most_cells) (ltb codes most_read) (le-ltb values most_cells h) ∙ lt-ltb codes most_read k)

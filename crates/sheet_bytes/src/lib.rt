@@ -144,6 +144,7 @@ fn size_bad(head: Head) -> bool
     })
 }
 
+#[tactic(auto, unfolding(crate::specs::Read::too_large))]
 fn too_large(head: Head) -> bool
     requires { head.columns ≤ most_columns }
     ensures { result ≡ too_large head }
@@ -204,6 +205,7 @@ fn cell_at(head: Head, index: usize) -> usize
 }
 
 // A NaN is refused by its bits: no float is made of it.
+#[tactic(auto, using(crate::proofs::Numbers::no_nan, crate::proofs::Numbers::nan_refused))]
 fn bits_within(bits: u64) -> bool
     ensures { result ≡ within (of_bits binary64 bits) }
 {
@@ -370,6 +372,7 @@ fn fill_codes(bytes: &[u8], head: Head, codes: &mut [u8])
 
 // The header's numbers, with the values and the label codes at the start of the lent memory; or why the bytes are refused, and then nothing
 // is written. The memory must hold the largest sheet, whatever the sheet.
+#[tactic(auto, using(crate::proofs::Stages::short_values, crate::proofs::Stages::short_codes), unfolding(crate::specs::Read::values_in, crate::specs::Read::codes_in))]
 pub fn read_sheet(bytes: &[u8], values: &mut [f64], codes: &mut [u8]) -> Read
     ensures { ReadInto bytes.now values.old codes.old result values.new codes.new }
 {

@@ -4,43 +4,15 @@ use native.Mathlib.Omega.{arith}
 use lib.ListN.{length}
 use mathlib.Core.Bool.{◌||◌}
 use lib.Dec.{ltb}
-use borrow.Author.Tests.{lt-ltb, le-ltb}
+use borrow.Author.Tests.{le-ltb}
 use Rattle.sheet_bytes.specs.declared.Read.TheVariants.{Refused}
 use Rattle.sheet.specs.Reasons.{scratch_short}
 use Rattle.sheet_bytes.specs.Room.{most_read, most_cells}
 use Rattle.sheet_bytes.specs.Read.{head_cells, read_of, value_read, code_of, values_of, codes_of, read_answer, values_in, codes_in}
-use Rattle.sheet_bytes.proofs.Numbers.{or_yes, or_no}
+use Rattle.sheet_bytes.proofs.Numbers.{or_no}
 use Rattle.sheet_bytes.proofs.Stores.{in_front}
-use Rattle.sheet_bytes.proofs.Stages.{chosen, passed, accepted, small_accepted, valued_accepted}
+use Rattle.sheet_bytes.proofs.Stages.{passed, accepted, small_accepted, valued_accepted}
 use Rattle.sheet_bytes.proofs.read_sheet.Goals as goal
-
-pub returns-then-values-lt-MOST_CELLS : goal.returns-then-values-lt-MOST_CELLS
-unfolding read_answer values_in codes_in
-returns-then-values-lt-MOST_CELLS c =
-    let a = c.args in
-    record {
-      answers =
-          sym (chosen (ltb (length a.values.now) most_cells || ltb (length a.codes.now) most_read) (Refused scratch_short 0) (read_of a.bytes.now)
-          (or_yes (ltb (length a.values.now) most_cells) (ltb (length a.codes.now) most_read) (lt-ltb (length a.values.now) most_cells c.if-values-lt-MOST_CELLS.true)));
-      stored =
-          refl;
-      coded =
-          refl;
-    }
-
-pub returns-then-codes-lt-MOST_READ : goal.returns-then-codes-lt-MOST_READ
-unfolding read_answer values_in codes_in
-returns-then-codes-lt-MOST_READ c =
-    let a = c.args in
-    record {
-      answers =
-          sym (chosen (ltb (length a.values.now) most_cells || ltb (length a.codes.now) most_read) (Refused scratch_short 0) (read_of a.bytes.now)
-          (or_no (ltb (length a.values.now) most_cells) (ltb (length a.codes.now) most_read) (le-ltb (length a.values.now) most_cells c.if-values-lt-MOST_CELLS.false) ∙ lt-ltb (length a.codes.now) most_read c.if-codes-lt-MOST_READ.true));
-      stored =
-          refl;
-      coded =
-          refl;
-    }
 
 pub fill_values-requires : goal.fill_values-requires
 fill_values-requires c =
