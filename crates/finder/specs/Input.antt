@@ -6,4 +6,4 @@ use Rattle.finder.specs.declared.Input.TheVariants.{Bytes, Failed}
 -- how many bytes were read
 abbrev pub bytes_read : Input → ℕ
 bytes_read (Bytes count) = count
-bytes_read Failed = 0
+bytes_read (Failed error) = 0

@@ -1,37 +1,34 @@
-// The finder: one sheet on standard input, its answer on standard output. Where either fails, a line on standard error says why. The exit
-// status is 0 all the same: a program here can end with no other.
+// The finder: one sheet on standard input, its answer on standard output. Where either fails, a line on standard error says why, and the
+// program ends with that error.
 #![tactic(auto)]
 
 ghost use Rattle.std.specs.Prelude.{◌≡◌, ◌≤◌, length, take};
-ghost use Rattle.io.specs.Counts.{IsPrefixLen};
+ghost use Rattle.std.specs.Counts.{IsPrefixLen};
 ghost use Rattle.listing.specs.Listing.{listing_of};
 ghost use Rattle.rule_finder.specs.Run.{run_of};
 ghost use Rattle.finder.specs.Input.{bytes_read};
 
-use libc::{STDIN_FILENO, STDOUT_FILENO};
 use listing::LONGEST;
+use std::io;
+use std::io::Read;
 
-// How many bytes were read, to the end of the input or of the room.
+// How many bytes were read, to the end of the input or of the room; or why a read failed.
 #[derive(Drop)]
 enum Input {
     Bytes { count: usize },
-    Failed,
+    Failed { error: io::Error },
 }
 
-fn read_input(bytes: &mut [u8]) -> Input
+fn read_input(reader: &mut impl Read, bytes: &mut [u8]) -> Input
     ensures { bytes_read result ≤ length bytes.new }
 {
     let mut count: usize = 0;
     while count < bytes.len() {
-        let got = libc::read(STDIN_FILENO, &mut bytes[count..]);
-        if got < 0 {
-            return Input::Failed;
+        match reader.read(&mut bytes[count..]) {
+            Ok(0) => return Input::Bytes { count },
+            Ok(more) => count += more,
+            Err(error) => return Input::Failed { error },
         }
-        let more = io::count(got, &bytes[count..]);
-        if more == 0 {
-            return Input::Bytes { count };
-        }
-        count += more;
     }
     Input::Bytes { count }
 }
@@ -44,24 +41,27 @@ fn answer(bytes: &[u8], text: &mut [u8; LONGEST]) -> usize
     rule_finder::run(bytes, text)
 }
 
-// Whether all of the answer was written.
-fn print_answer(bytes: &[u8]) -> bool {
+// All of the answer is written, or an error is answered.
+fn print_answer(rt: &impl Print, bytes: &[u8]) -> io::Result<()> {
     let mut text = [0u8; LONGEST];
     let length = answer(bytes, &mut text);
-    io::write_all(STDOUT_FILENO, &text[..length])
+    rt.write_all(&text[..length])
 }
 
-fn main() {
+// Says on standard error what failed and why, and answers the error.
+fn fail(rt: &impl Eprint, what: &str, error: io::Error) -> io::Result<()> {
+    eprintln!(rt; "{what}: {error}")?;
+    Err(error)
+}
+
+fn main(rt: HostRuntime) -> io::Result<()> {
     let mut bytes = sheet_bytes::sheet_room::empty_room();
-    let input = read_input(&mut bytes);
+    let input = read_input(&mut rt.stdin(), &mut bytes);
     match input {
-        Input::Failed => {
-            os::fail(b"standard input");
-        }
-        Input::Bytes { count } => {
-            if !print_answer(&bytes[..count]) {
-                os::fail(b"standard output");
-            }
-        }
+        Input::Failed { error } => fail(&rt, "standard input", error),
+        Input::Bytes { count } => match print_answer(&rt, &bytes[..count]) {
+            Ok(()) => Ok(()),
+            Err(error) => fail(&rt, "standard output", error),
+        },
     }
 }

@@ -1,5 +1,5 @@
 // What the numbers of lists and of cases say.
-ghost use Rattle.io.specs.Counts.{IsPrefixLen};
+ghost use Rattle.std.specs.Counts.{IsPrefixLen};
 
 use interval_pruner::{Bound, Tried};
 

@@ -2,6 +2,8 @@
 // answers otherwise. Standard input has the digests of the original's answers.
 #![tactic(auto)]
 
+ghost use Rattle.std.specs.Io.{ReadsAtMost};
+
 mod code;
 mod lookups;
 mod neighbourhood;
@@ -9,9 +11,10 @@ mod shrinking;
 mod tally;
 
 use crate::tally::Tally;
-use libc::{STDIN_FILENO, STDOUT_FILENO};
+use std::io;
+use std::io::Read;
 
-#[derive(Drop)]
+#[derive(Clone, Copy)]
 enum Step {
     Lookups,
     Shrinking,
@@ -31,17 +34,32 @@ fn byte(x: u8) -> u64 {
     x as u64
 }
 
+// Reads until the bytes are full or the input ends, and answers how many came.
+fn read_full(reader: &mut impl Read, bytes: &mut [u8]) -> io::Result<usize>
+    ensures { ReadsAtMost result bytes.new }
+{
+    let mut count: usize = 0;
+    while count < bytes.len() {
+        let more = reader.read(&mut bytes[count..])?;
+        if more == 0 {
+            return Ok(count);
+        }
+        count += more;
+    }
+    Ok(count)
+}
+
 // Eight bytes, the lowest first; what is missing is 0, which no digest is.
-fn read_number() -> u64 {
+fn read_number(reader: &mut impl Read) -> io::Result<u64> {
     let mut bytes = [0u8; 8];
-    io::read_full(STDIN_FILENO, &mut bytes);
+    read_full(reader, &mut bytes)?;
     let mut sum: u64 = 0;
     let mut at: usize = 8;
     while 0 < at {
         at -= 1;
         sum = (sum << 8) | byte(bytes[at]);
     }
-    sum
+    Ok(sum)
 }
 
 // A step at every interval of a list.
@@ -72,43 +90,52 @@ fn ask(step: Step, mask: usize) -> Tally {
 }
 
 // No sum comes near wrapping.
-fn compared(count: Count, ours: Tally) -> Count {
-    let recorded = read_number();
-    let digest = read_number();
+fn compared(reader: &mut impl Read, count: Count, ours: Tally) -> io::Result<Count> {
+    let recorded = read_number(reader)?;
+    let digest = read_number(reader)?;
     let cases = std::num::wrapping_add_u64(count.cases, ours.cases);
     let differ = count.differ;
     if recorded == ours.cases && digest == ours.digest {
-        return Count { cases, differ };
+        return Ok(Count { cases, differ });
     }
-    Count {
+    Ok(Count {
         cases,
         differ: std::num::wrapping_add_u64(differ, 1),
-    }
+    })
 }
 
-fn compare(step: Step) -> Count {
+fn compare(reader: &mut impl Read, step: Step) -> io::Result<Count> {
     let mut count = Count {
         cases: 0,
         differ: 0,
     };
     let mut mask: usize = 0;
     while mask < LISTS {
-        count = compared(count, ask(step, mask));
+        count = compared(reader, count, ask(step, mask))?;
         mask += 1;
     }
-    count
+    Ok(count)
 }
 
-fn report(name: &[u8], count: Count) {
-    io::write_all(STDOUT_FILENO, name);
-    io::print_decimal(STDOUT_FILENO, count.cases);
-    io::write_all(STDOUT_FILENO, b" differ=");
-    io::print_decimal(STDOUT_FILENO, count.differ);
-    io::write_all(STDOUT_FILENO, b"\n");
+fn report(rt: &impl Print, name: &[u8], count: Count) -> io::Result<()> {
+    rt.write_all(name)?;
+    rt.print(count.cases)?;
+    rt.write_all(b" differ=")?;
+    rt.print(count.differ)?;
+    rt.write_all(b"\n")
 }
 
-fn main() {
-    report(b"lookups cases=", compare(Step::Lookups));
-    report(b"shrinking cases=", compare(Step::Shrinking));
-    report(b"neighbourhood cases=", compare(Step::Neighbourhood));
+fn main(rt: HostRuntime) -> io::Result<()> {
+    let mut input = rt.stdin();
+    report(&rt, b"lookups cases=", compare(&mut input, Step::Lookups)?)?;
+    report(
+        &rt,
+        b"shrinking cases=",
+        compare(&mut input, Step::Shrinking)?,
+    )?;
+    report(
+        &rt,
+        b"neighbourhood cases=",
+        compare(&mut input, Step::Neighbourhood)?,
+    )
 }

@@ -9,11 +9,17 @@ mod judged;
 mod record;
 
 use count::Count;
-use libc::STDOUT_FILENO;
 use listing::LONGEST;
+use std::fs::File;
+use std::io;
+use std::io::Read;
+use std::rt::Files;
 
 // Nothing says that a file ends, so reading stops at this many records; the longer file has 2,400.
 const MOST_RECORDS: u64 = 65536;
+
+// Room for the bytes of the longest recorded sheet.
+const ROOM: usize = 4096;
 
 // The two lengths at a record's start.
 const LENGTHS: usize = 4;
@@ -44,76 +50,77 @@ fn replayed(bytes: &[u8], recorded: &[u8]) -> Count {
 }
 
 // A record that is cut short, or longer than any that was recorded, is told otherwise.
-fn replay_record(fd: i32, size: usize, length: usize) -> Count {
-    let mut bytes = io::buffer();
+fn replay_record(file: &mut impl Read, size: usize, length: usize) -> io::Result<Count> {
+    let mut bytes = [0u8; ROOM];
     let mut text = [0u8; LONGEST];
-    let read = record::read_bytes(fd, &mut bytes, size);
-    let told = record::read_bytes(fd, &mut text, length);
+    let read = record::read_bytes(file, &mut bytes, size)?;
+    let told = record::read_bytes(file, &mut text, length)?;
     if read != size {
-        return count::sheet(true);
+        return Ok(count::sheet(true));
     }
     if told != length {
-        return count::sheet(true);
+        return Ok(count::sheet(true));
     }
-    replayed(&bytes[..read], &text[..told])
+    Ok(replayed(&bytes[..read], &text[..told]))
 }
 
 // At the file's end nothing is counted, not even a sheet.
-fn replay_next(fd: i32) -> Count {
+fn replay_next(file: &mut impl Read) -> io::Result<Count> {
     let mut lengths = [0u8; LENGTHS];
-    let got = io::read_full(fd, &mut lengths);
+    let got = record::read_full(file, &mut lengths)?;
     if got == 0 {
-        return count::nothing();
+        return Ok(count::nothing());
     }
     if got < LENGTHS {
-        return count::sheet(true);
+        return Ok(count::sheet(true));
     }
     let size = record::number(lengths[0], lengths[1]);
     let length = record::number(lengths[2], lengths[3]);
-    replay_record(fd, size, length)
+    replay_record(file, size, length)
 }
 
-fn replay_all(fd: i32) -> Count {
+fn replay_all(file: &mut impl Read) -> io::Result<Count> {
     let mut total = count::nothing();
     let mut records: u64 = 0;
     while records < MOST_RECORDS {
-        let next = replay_next(fd);
+        let next = replay_next(file)?;
         if next.sheets == 0 {
-            return total;
+            return Ok(total);
         }
         total = count::sum(total, next);
         records += 1;
     }
-    total
+    Ok(total)
 }
 
-fn print_field(word: &[u8], n: u64) {
-    io::write_all(STDOUT_FILENO, word);
-    io::print_decimal(STDOUT_FILENO, n);
+fn print_field(rt: &impl Print, word: &[u8], n: u64) -> io::Result<()> {
+    rt.write_all(word)?;
+    rt.print(n)
 }
 
-fn report(name: &[u8], count: Count) {
-    io::write_all(STDOUT_FILENO, name);
-    print_field(b" sheets=", count.sheets);
-    print_field(b" differ=", count.differ);
-    print_field(b" trees=", count.trees);
-    print_field(b" misjudged=", count.misjudged);
-    io::write_all(STDOUT_FILENO, b"\n");
+fn report(rt: &impl Print, name: &[u8], count: Count) -> io::Result<()> {
+    rt.write_all(name)?;
+    print_field(rt, b" sheets=", count.sheets)?;
+    print_field(rt, b" differ=", count.differ)?;
+    print_field(rt, b" trees=", count.trees)?;
+    print_field(rt, b" misjudged=", count.misjudged)?;
+    rt.write_all(b"\n")
 }
 
-// A file that cannot be opened has no line, so that the run fails.
-fn replay(path: &[u8]) {
-    let fd = os::open_read(path);
-    if fd < 0 {
-        os::fail(path);
-        return;
-    }
-    let total = replay_all(fd);
-    libc::close(fd);
-    report(path, total);
+// A file that cannot be opened has no line, and the run fails.
+fn replay<R: Files + Print + Eprint>(rt: &R, path: &str) -> io::Result<()> {
+    let mut file = match File::open(rt, path) {
+        Ok(file) => file,
+        Err(error) => {
+            eprintln!(rt; "{path}: {error}")?;
+            return Err(error);
+        }
+    };
+    let total = replay_all(&mut file)?;
+    report(rt, path.as_bytes(), total)
 }
 
-fn main() {
-    replay(b"sheets.bin");
-    replay(b"refused.bin");
+fn main(rt: HostRuntime) -> io::Result<()> {
+    replay(&rt, "sheets.bin")?;
+    replay(&rt, "refused.bin")
 }
