@@ -13,18 +13,18 @@ pub returns-then-last-first : goal.returns-then-last-first
 unfolding end_of
 returns-then-last-first c =
     let a = c.args in
-    sym (pick_false _ _ (length a.cuts.now) (le→nltb a.first a.last c.if-last-first.true))
+    sym (pick_false _ _ (length a.cuts.now) (le→nltb a.first a.last (omega arith)))
 
 pub returns-then-last-count : goal.returns-then-last-count
 unfolding end_of
 returns-then-last-count c =
     let a = c.args in
     let e : min (suc a.last) (length a.cuts.now) ≡ a.last + 1 = omega arith in
-    sym (pick_true _ _ _ (lt→ltb a.first a.last c.if-last-first.false) ∙ e)
+    sym (pick_true _ _ _ (lt→ltb a.first a.last (omega arith)) ∙ e)
 
 pub returns-else-last-count : goal.returns-else-last-count
 unfolding end_of
 returns-else-last-count c =
     let a = c.args in
     let e : min (suc a.last) (length a.cuts.now) ≡ length a.cuts.now = omega arith in
-    sym (pick_true _ _ _ (lt→ltb a.first a.last c.if-last-first.false) ∙ e)
+    sym (pick_true _ _ _ (lt→ltb a.first a.last (omega arith)) ∙ e)

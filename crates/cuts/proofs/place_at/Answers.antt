@@ -14,4 +14,4 @@ pub returns-else-k-cuts : goal.returns-else-k-cuts
 unfolding place
 returns-else-k-cuts c =
     let a = c.args in
-    (sym (get_or-eq_default a.cuts.now 0 c.if-k-cuts.false), omega arith)
+    (sym (get_or-eq_default a.cuts.now 0 (omega arith)), omega arith)

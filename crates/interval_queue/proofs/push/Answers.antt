@@ -14,7 +14,7 @@ returns-then-slots-head c =
 pub returns-then-slots-waiting : goal.returns-then-slots-waiting
 returns-then-slots-waiting c =
     let a = c.args in
-    (sym (push_full a.words.now a.queue c.if-slots-waiting.true), sym (push_full_words a.words.now a.queue a.bound c.if-slots-waiting.true))
+    (sym (push_full a.words.now a.queue (omega arith)), sym (push_full_words a.words.now a.queue a.bound (omega arith)))
 
 pub returns : goal.returns
 returns c =

@@ -39,4 +39,4 @@ returns-in-Nothing c =
 
 pub returns-else-z-last : goal.returns-else-z-last
 returns-else-z-last c =
-    none _ _ _ c.short_of-last.ensures _ c.in-Cut.is c.if-z-last.false
+    none _ _ _ c.short_of-last.ensures _ c.in-Cut.is (omega arith)
