@@ -26,13 +26,17 @@ pub wrong_sum-requires : goal.wrong_sum-requires
 wrong_sum-requires c =
     let a = c.args in
     let s : Sheet = sheet_of a.size a.values.now a.codes.now [] [] [] in
-    few_left s a.tree c.pass-passed.result c.pass-passed.ensures c.requires.0.rows_most _ c.wrong_of-left.ensures
+    omega (arith, few_left s a.tree c.pass-passed.result c.pass-passed.ensures c.requires.0.rows_most _ c.wrong_of-left.ensures)
 
 pub wrong_sum-requires-2 : goal.wrong_sum-requires-2
 wrong_sum-requires-2 c =
     let a = c.args in
     let s : Sheet = sheet_of a.size a.values.now a.codes.now [] [] [] in
-    few_right s a.tree c.pass-passed.result c.pass-passed.ensures c.requires.0.rows_most _ c.wrong_of-right.ensures
+    omega (
+      arith,
+      few_left s a.tree c.pass-passed.result c.pass-passed.ensures c.requires.0.rows_most _ c.wrong_of-left.ensures,
+      few_right s a.tree c.pass-passed.result c.pass-passed.ensures c.requires.0.rows_most _ c.wrong_of-right.ensures,
+    )
 
 pub overflow_add-mistakes : goal.overflow_add-mistakes
 overflow_add-mistakes c =

@@ -47,5 +47,5 @@ returns c t =
     let s : Sheet = sheet_of a.size a.values.now a.codes.now a.order.now a.cuts.now a.counts.now in
     accepted s c.requires.0.limited.rows_some c.type_inv.values
     (labels_clean a.codes.now a.size.labels a.size.rows c.first_bad_label.result c.requires.0.lengths.codes_all c.first_bad_label.ensures
-    c.if-first_bad_label-codes.false)
+    (omega arith))
     (λ i l. c.loop-column.invariant.3 i (omega (arith, c.loop-column-test.false)))
