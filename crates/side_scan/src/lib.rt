@@ -76,7 +76,7 @@ fn advance(side: &mut SideScan, column: usize, label: usize, value: f64)
     *side = step(*side, column, label, value);
 }
 
-// From a record to a record by way of `advance`: whoever calls this one needs no walk by hand.
+// From a record to a record by way of `advance`.
 pub fn advanced(side: SideScan, column: usize, label: usize, value: f64) -> SideScan
     requires { Steppable side label }
     ensures { result ≡ step_of side column label value }
