@@ -6,3 +6,4 @@ pub mod Sound
 pub mod Check
 pub mod Laws
 pub mod Ready
+pub mod Lent

@@ -1,6 +1,9 @@
 // The sheet: its limits, its lists, what the input check answers, and the parts of the check that others share.
 #![tactic(auto)]
 
+pub mod lent;
+pub mod refusals;
+
 ghost use Rattle.std.specs.Prelude.{◌≡◌, ◌+◌, ◌<◌, ◌≤◌, length, get_or};
 ghost use Rattle.sheet.specs.Check.{between, grid_holds, size_holds, terms_hold, cleared, first_bad_value, first_bad_label};
 ghost use Rattle.sheet.specs.Sheet.{value_listed};
