@@ -1,11 +1,12 @@
 -- A walk stops at the first number that passes, and nothing else does. Assumes nothing.
-use mathlib.Core.Path.{◌≡◌, subst}
+use mathlib.Core.Path.{◌≡◌, refl, subst}
 use Prim.Native.Nat.{ℕ, zero, suc, ◌+◌, ◌≤◌, ◌<◌, min}
 use native.Mathlib.Omega.{arith}
 use mathlib.Core.Bool.{Bool, not}
 use lib.Dec.{T, T_not}
-use Rattle.basics.specs.Walk.{walk, Walked}
-use Rattle.basics.proofs.Choice.{by_test, order, reach}
+use Rattle.std.specs.Prelude.{Option, Some, None}
+use Rattle.basics.specs.Walk.{walk, Walked, place_among}
+use Rattle.basics.proofs.Choice.{by_test, by_ltb, order, reach}
 
 later : (ok : ℕ → Bool) (n k r : ℕ) → T (not (ok k)) → Walked ok n (suc k) r → Walked ok (suc n) k r
 later ok n k r f w =
@@ -47,3 +48,16 @@ walk_short ok n m k h =
   where
     min_left : (a b : ℕ) → min a b < b → min a b ≡ a
     min_left a b x = omega arith
+
+-- what a place among the first n says, and how it is come by
+pub place_some : (n place p : ℕ) → place_among n place ≡ Some p → (place ≡ p) × (place < n)
+place_some n place p = by_ltb (λ (o : Option ℕ). o ≡ Some p → (place ≡ p) × (place < n)) place n (λ low e. (cc, low)) (λ high e. absurd cc)
+
+pub place_none : (n place : ℕ) → place_among n place ≡ None → n ≤ place
+place_none n place = by_ltb (λ (o : Option ℕ). o ≡ None → n ≤ place) place n (λ low e. absurd cc) (λ high e. high)
+
+pub place_found : (n place : ℕ) → place < n → place_among n place ≡ Some place
+place_found n place h = by_ltb (λ (o : Option ℕ). o ≡ Some place) place n (λ low. refl) (λ high. absurd (omega arith))
+
+pub place_missed : (n place : ℕ) → n ≤ place → place_among n place ≡ None
+place_missed n place h = by_ltb (λ (o : Option ℕ). o ≡ None) place n (λ low. absurd (omega arith)) (λ high. refl)
