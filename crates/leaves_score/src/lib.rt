@@ -7,11 +7,13 @@ pub mod two_sides;
 ghost use Rattle.std.specs.Prelude.{◌≡◌};
 ghost use Rattle.sheet.specs.Sheet.{least_rows};
 ghost use Rattle.leaves_score.specs.Scan.{perfect, scanned, sides_of};
-ghost use Rattle.leaves_score.specs.Lists.{Scannable, scan_sheet, go_left};
+ghost use Rattle.sheet.specs.Lent.{sheet_in};
+ghost use Rattle.leaves_score.specs.Lists.{Scannable, scan_sheet, scan_of, go_left};
 
 use crate::column_scan::scan_column;
 use crate::two_sides::{Two, part_rows};
 use sheet::Size;
+use sheet::lent::LentSheet;
 use tree::Side;
 
 // The two sides of a root split.
@@ -71,21 +73,20 @@ fn scan_columns(
 }
 
 // The two sides of the root split that sends the rows with mark 0 left. The search calls it on an accepted sheet only, which is what it asks for.
-pub fn get_leaves_score(
-    size: Size,
-    support: u32,
-    values: &[f64],
-    codes: &[u8],
-    order: &[u16],
-    marks: &[u32],
-) -> Sides
-    requires { Scannable (scan_sheet size values.now codes.now order.now) marks.now }
-    ensures { result ≡ sides_of (scan_sheet size values.now codes.now order.now) support (go_left marks.now) }
+pub fn get_leaves_score(sheet: &LentSheet, support: u32, marks: &[u32]) -> Sides
+    requires { Scannable (scan_of (sheet_in sheet.now)) marks.now }
+    ensures { result ≡ sides_of (scan_of (sheet_in sheet.now)) support (go_left marks.now) }
 {
-    let both = scan_columns(size, support, values, codes, order, marks);
-    let first = both.left;
-    let second = both.right;
-    let left = side_scan::side_of(first);
-    let right = side_scan::side_of(second);
+    let measured = sheet.measured;
+    let both = scan_columns(
+        measured.size,
+        support,
+        measured.values,
+        measured.codes,
+        sheet.order,
+        marks,
+    );
+    let left = side_scan::side_of(both.left);
+    let right = side_scan::side_of(both.right);
     Sides { left, right }
 }
