@@ -2,13 +2,12 @@
 ghost use Rattle.cuts.specs.Feasible.{FeasibleRun};
 
 use crate::Run;
-use basics::larger;
 
 // The cuts that leave at least `support` rows, and at least one, on each side.
 pub fn support_feasible_splits(cuts: &[u16], rows: usize, support: usize) -> Run
     ensures { FeasibleRun cuts.now rows support result }
 {
-    let least = larger(support, 1);
+    let least = support.max(1);
     // Half of the rows is compared, since twice the support might not fit.
     if rows / 2 < least {
         return Run { first: 0, end: 0 };
@@ -17,6 +16,6 @@ pub fn support_feasible_splits(cuts: &[u16], rows: usize, support: usize) -> Run
     let most = rows - least;
     let count = cuts.len();
     let first = crate::first_above(cuts, 0, count, short);
-    let end = larger(crate::first_above(cuts, 0, count, most), first);
+    let end = crate::first_above(cuts, 0, count, most).max(first);
     Run { first, end }
 }

@@ -7,8 +7,6 @@ ghost use Rattle.std.specs.Prelude.{◌≡◌, ◌-◌, ◌≤◌, max, length};
 ghost use Rattle.basics.specs.Walk.{walk};
 ghost use Rattle.cuts.specs.Lookups.{Ascending, Sought, above, end_of, lower_bound_of, upper_bound_of, PlaceRead};
 
-use basics::wide_entry;
-
 // A run of cut numbers, from `first` up to and without `end`; none where the two are equal.
 #[derive(Clone, Copy)]
 pub struct Run {
@@ -27,7 +25,7 @@ pub fn place_at(cuts: &[u16], k: usize) -> usize
     ensures { PlaceRead cuts.now k result }
 {
     if k < cuts.len() {
-        wide_entry(cuts[k])
+        usize::from(cuts[k])
     } else {
         0
     }
@@ -39,11 +37,12 @@ pub(crate) fn first_above(cuts: &[u16], low: usize, high: usize, value: usize) -
     ensures inside { (low ≤ result) × (result ≤ max low high) }
     ensures found { Ascending cuts.now → result ≡ walk (above cuts.now value) (high - low) low }
 {
+    // Halved here and not by `partition_point`, since the edits halves-past-the-middle and upper-bound-not-strict speak of these steps.
     let mut from = low;
     let mut to = high;
     while from < to {
         let middle = from + (to - from) / 2;
-        if value < wide_entry(cuts[middle]) {
+        if value < usize::from(cuts[middle]) {
             to = middle;
         } else {
             from = middle + 1;
@@ -60,41 +59,26 @@ fn end_of(cuts: &[u16], first: usize, last: usize) -> usize
     if last <= first {
         return count;
     }
-    if last < count { last + 1 } else { count }
-}
-
-// The first cut from `first` to `last` that is placed at `value` or above, or one past the end if none is.
-fn sought_at(cuts: &[u16], first: usize, last: usize, value: usize) -> usize
-    ensures { Sought cuts.now first last (lower_bound_of cuts.now first last value) result }
-{
-    // Every cut is placed at 0 or above, and what is placed at a higher value or above is placed above the number before it.
-    if value == 0 {
-        return first;
-    }
-    let below = value - 1;
-    let end = end_of(cuts, first, last);
-    first_above(cuts, first, end, below)
-}
-
-// The first cut from `first` to `last` that is placed above `value`, or one past the end if none is.
-fn sought_above(cuts: &[u16], first: usize, last: usize, value: usize) -> usize
-    ensures { Sought cuts.now first last (upper_bound_of cuts.now first last value) result }
-{
-    let end = end_of(cuts, first, last);
-    first_above(cuts, first, end, value)
+    count.min(last.saturating_add(1))
 }
 
 impl<'a> CutReader<'a> {
+    // The first cut from `first` to `last` that is placed at `value` or above, or one past the end if none is.
     pub fn lower_bound(self, first: usize, last: usize, value: usize) -> usize
         ensures { Sought self.entry.places.now first last (lower_bound_of self.entry.places.now first last value) result }
     {
-        sought_at(self.places, first, last, value)
+        // Every cut is placed at 0 or above, and what is placed at a higher value or above is placed above the number before it.
+        if value == 0 {
+            return first;
+        }
+        self.upper_bound(first, last, value - 1)
     }
 
+    // The first cut from `first` to `last` that is placed above `value`, or one past the end if none is.
     pub fn upper_bound(self, first: usize, last: usize, value: usize) -> usize
         ensures { Sought self.entry.places.now first last (upper_bound_of self.entry.places.now first last value) result }
     {
-        sought_above(self.places, first, last, value)
+        first_above(self.places, first, end_of(self.places, first, last), value)
     }
 }
 

@@ -1,6 +1,6 @@
 -- `cuts::end_of` meets its contract: each arm returns what the definition picks there.
 use mathlib.Core.Path.{◌≡◌, sym, ◌∙◌}
-use Prim.Native.Nat.{suc, ◌+◌, min}
+use Prim.Native.Nat.{suc, min}
 use native.Mathlib.Omega.{arith}
 use lib.ListN.{length}
 use lib.Dec.{lt→ltb}
@@ -15,16 +15,9 @@ returns-then-last-first c =
     let a = c.args in
     sym (pick_false _ _ (length a.cuts.now) (le→nltb a.first a.last (omega arith)))
 
-pub returns-then-last-count : goal.returns-then-last-count
+pub returns : goal.returns
 unfolding end_of
-returns-then-last-count c =
+returns c =
     let a = c.args in
-    let e : min (suc a.last) (length a.cuts.now) ≡ a.last + 1 = omega arith in
-    sym (pick_true _ _ _ (lt→ltb a.first a.last (omega arith)) ∙ e)
-
-pub returns-else-last-count : goal.returns-else-last-count
-unfolding end_of
-returns-else-last-count c =
-    let a = c.args in
-    let e : min (suc a.last) (length a.cuts.now) ≡ length a.cuts.now = omega arith in
+    let e : min (suc a.last) (length a.cuts.now) ≡ c.min.result = omega (arith, c.min.ensures, c.saturating_add.ensures) in
     sym (pick_true _ _ _ (lt→ltb a.first a.last (omega arith)) ∙ e)

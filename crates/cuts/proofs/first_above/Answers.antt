@@ -48,15 +48,15 @@ pub loop-from-init : goal.loop-from-init
 loop-from-init c =
     record { left = omega arith; order = omega arith; right = omega arith; before = λ up k p q. omega arith; after = λ up k p q. omega arith }
 
-pub loop-from-preserved-then-value-wide_entry : goal.loop-from-preserved-then-value-wide_entry
+pub loop-from-preserved-then-value-from : goal.loop-from-preserved-then-value-from
 unfolding place
-loop-from-preserved-then-value-wide_entry c =
-    down c.requires c.loop-from.invariant _ (omega arith) (omega arith) (omega (arith, c.wide_entry.ensures, c.if-value-wide_entry.true))
+loop-from-preserved-then-value-from c =
+    down c.requires c.loop-from.invariant _ (omega arith) (omega arith) (omega (arith, c.if-value-from.true))
 
 pub loop-from-preserved : goal.loop-from-preserved
 unfolding place
 loop-from-preserved c =
-    up c.requires c.loop-from.invariant _ (omega arith) (omega arith) (omega (arith, c.wide_entry.ensures, c.if-value-wide_entry.false))
+    up c.requires c.loop-from.invariant _ (omega arith) (omega arith) (omega (arith, c.if-value-from.false))
 
 pub returns : goal.returns
 returns c =

@@ -12,15 +12,15 @@ the_run first end = record { first = first; end = end }
 pub returns-then-rows-least : goal.returns-then-rows-least
 returns-then-rows-least c =
     let a = c.args in
-    ((omega arith, omega arith), λ up. run_none a.cuts.now a.rows a.support _ c.larger-least.ensures c.if-rows-least.true)
+    ((omega arith, omega arith), λ up. run_none a.cuts.now a.rows a.support _ c.max-least.ensures c.if-rows-least.true)
 
 pub returns : goal.returns
 returns c =
     let a = c.args in
     let f = c.first_above-first in
     let g = c.first_above in (
-      (omega (arith, c.larger-end.ensures), omega (arith, c.larger-end.ensures, f.ensures.inside.1, g.ensures.inside.1)),
+      (omega (arith, c.max-end.ensures), omega (arith, c.max-end.ensures, f.ensures.inside.1, g.ensures.inside.1)),
       λ up.
-          ap (λ (n : ℕ). the_run f.result n) c.larger-end.ensures ∙
-          run_some a.cuts.now a.rows a.support _ c.larger-least.ensures c.if-rows-least.false _ _ (f.ensures.found up) (g.ensures.found up),
+          ap (λ (n : ℕ). the_run f.result n) c.max-end.ensures ∙
+          run_some a.cuts.now a.rows a.support _ c.max-least.ensures c.if-rows-least.false _ _ (f.ensures.found up) (g.ensures.found up),
     )
