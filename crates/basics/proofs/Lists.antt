@@ -8,6 +8,8 @@ use mathlib.Core.List.{List, [], ◌∷◌, ◌++◌}
 use lib.ListN.{length, get_or, take, drop}
 use lib.Seq.{take-suc}
 use lib.Dec.{T, eqb, eqb→eq, eqb_refl}
+use Rattle.std.specs.Prelude.{count_by, cond}
+use Rattle.std.proofs.lemmas.List.Recursion.{is_count_by}
 use Rattle.basics.specs.Choice.{pick, bit}
 use Rattle.basics.specs.Lists.{All, Any, here, there, total, tally, those, table}
 use Rattle.basics.proofs.Choice.{by_test, decide, reach, bit_true, bit_false, bit_le, bit_and_true, bit_and_false, bit_halves}
@@ -123,6 +125,14 @@ tally_front p (x ∷ xs) d zero h f g =
     omega (arith, bit_false (p x) (g 0 (omega arith) (omega arith)), tally_front p xs d 0 (omega arith) (λ i k. absurd (omega arith)) (λ i k l. g (suc i) (omega arith) (omega arith)))
 tally_front p (x ∷ xs) d (suc n) h f g =
     omega (arith, bit_true (p x) (f 0 (omega arith)), tally_front p xs d n (omega arith) (λ i k. f (suc i) (omega arith)) (λ i k l. g (suc i) (omega arith) (omega arith)))
+
+-- the library's count is the same
+pub tally_count : {A : Type 0} → (p : A → Bool) (xs : List A) → tally p xs ≡ count_by p xs
+tally_count p xs = is_count_by (tally p) p refl (λ x xs. one_more (p x) (tally p xs)) xs
+  where
+    one_more : (b : Bool) (n : ℕ) → bit b + n ≡ cond b (1 + n) n
+    one_more true n = refl
+    one_more false n = omega arith
 
 -- ---- the members that pass
 

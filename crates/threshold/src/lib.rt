@@ -31,9 +31,5 @@ pub fn goes_left(value: f64, threshold: f64) -> bool
 pub fn in_range(value: f64) -> bool
     ensures { result ≡ within value }
 {
-    if LOWEST <= value {
-        value <= LARGEST
-    } else {
-        false
-    }
+    LOWEST <= value && value <= LARGEST
 }

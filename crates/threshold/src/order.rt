@@ -3,12 +3,10 @@
 ghost use Rattle.std.specs.Prelude.{◌≡◌, ◌<◌, length};
 ghost use Rattle.threshold.specs.Order.{row_below};
 
-use basics::wide_entry;
-
 // Whether a row's value is below another's.
 pub fn below(values: &[f64], a: u16, b: u16) -> bool
     requires { (a < length values.now) × (b < length values.now) }
     ensures { result ≡ row_below values.now a b }
 {
-    values[wide_entry(a)] < values[wide_entry(b)]
+    values[usize::from(a)] < values[usize::from(b)]
 }
