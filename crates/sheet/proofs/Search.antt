@@ -3,9 +3,15 @@ use mathlib.Core.Path.{◌≡◌, refl, sym, ap, ◌∙◌, subst}
 use Prim.Native.Nat.{ℕ, ◌+◌, ◌≤◌, ◌<◌}
 use native.Mathlib.Omega.{arith}
 use mathlib.Core.Bool.{Bool, true, false, not, ◌&&◌}
-use lib.Dec.{T}
+use lib.Dec.{T, ltb}
+use mathlib.Core.List.{List}
+use lib.ListN.{length, get_or}
+use Rattle.std.specs.Prelude.{Some, None, cond, position}
+use Rattle.std.specs.List.{position_or_len}
+use Rattle.std.proofs.lemmas.List.Sums.{position_or_len_is}
 use borrow.Author.Count.{below_more}
-use Rattle.basics.specs.Walk.{walk}
+use Rattle.basics.specs.Choice.{pick}
+use Rattle.basics.specs.Walk.{walk, place_among}
 use Rattle.basics.proofs.Walk.{walked, walk_unique}
 
 -- no place before the n-th is bad
@@ -54,3 +60,26 @@ walk_most bad n = omega (arith, (walked bad n 0).high)
 
 pub walk_bad : (bad : ℕ → Bool) (n : ℕ) → walk bad n 0 < n → T (bad (walk bad n 0))
 walk_bad bad n h = (walked bad n 0).found (omega arith)
+
+-- ---- a search by the library's `position` is a walk's
+
+yes : {b : Bool} → T b → b ≡ true
+yes {b} t = go b t
+  where
+    go : (b : Bool) → T b → b ≡ true
+    go true t = refl
+    go false t = absurd t
+
+chosen : {X : Type 0} (b : Bool) (x y : X) → cond b x y ≡ pick b x y
+unfolding pick
+chosen true x y = refl
+chosen false x y = refl
+
+pub position_place : {X : Type 0} (test : X → Bool) (xs : List X) (d : X)
+    → position test xs ≡ place_among (length xs) (walk (λ i. test (get_or xs i d)) (length xs) 0)
+position_place test xs d =
+    let n : ℕ = length xs in
+    let bad : ℕ → Bool = λ i. test (get_or xs i d) in
+    let e : position_or_len test xs ≡ walk bad n 0 =
+    position_or_len_is test xs (walk bad n 0) d (walk_most bad n) (λ k h. falsity (bad k) ((clean_walk bad n).none k h)) (λ h. yes (walk_bad bad n h)) in
+    ap (λ (p : ℕ). cond (ltb p n) (Some p) None) e ∙ chosen (ltb (walk bad n 0) n) (Some (walk bad n 0)) None

@@ -5,10 +5,9 @@ pub mod lent;
 pub mod refusals;
 
 ghost use Rattle.std.specs.Prelude.{◌≡◌, ◌+◌, ◌<◌, ◌≤◌, length, get_or};
+ghost use Rattle.basics.specs.Walk.{place_among};
 ghost use Rattle.sheet.specs.Check.{between, grid_holds, size_holds, terms_hold, cleared, first_bad_value, first_bad_label};
 ghost use Rattle.sheet.specs.Sheet.{value_listed};
-
-use basics::{wide_byte, wide_entry};
 
 // The numbers of a sheet; they may hold anything until the check has accepted them.
 #[derive(Clone, Copy)]
@@ -71,39 +70,21 @@ pub fn clear(scratch: &mut [u32], words: usize)
     requires { words ≤ length scratch.old }
     ensures { scratch.new ≡ cleared words scratch.old }
 {
-    let mut i: usize = 0;
-    while i < words {
-        scratch[i] = 0;
-        i += 1;
-    }
+    scratch[..words].fill(0);
 }
 
-// The index of the first value that is not finite or too large; the number of values if there is none.
-pub fn first_bad_value(values: &[f64]) -> usize
-    ensures { result ≡ first_bad_value values.now }
+// The index of the first value that is not finite or too large.
+pub fn first_bad_value(values: &[f64]) -> Option<usize>
+    ensures { result ≡ place_among (length values.now) (first_bad_value values.now) }
 {
-    let mut i: usize = 0;
-    while i < values.len() {
-        if !threshold::in_range(values[i]) {
-            return i;
-        }
-        i += 1;
-    }
-    i
+    values.iter().position(|value| !threshold::in_range(*value))
 }
 
-// The first row whose label code is too high; the number of rows if there is none.
-pub fn first_bad_label(codes: &[u8], labels: usize) -> usize
-    ensures { result ≡ first_bad_label codes.now labels }
+// The first row whose label code is too high.
+pub fn first_bad_label(codes: &[u8], labels: usize) -> Option<usize>
+    ensures { result ≡ place_among (length codes.now) (first_bad_label codes.now labels) }
 {
-    let mut i: usize = 0;
-    while i < codes.len() {
-        if labels <= wide_byte(codes[i]) {
-            return i;
-        }
-        i += 1;
-    }
-    i
+    codes.iter().position(|code| labels <= usize::from(*code))
 }
 
 // The value at a sorted place of the column whose entries start at base.
@@ -111,48 +92,35 @@ pub fn value_at(values: &[f64], order: &[u16], base: usize, place: usize) -> f64
     requires { (base + place < length order.now) × (base + get_or order.now (base + place) 0 < length values.now) }
     ensures { result ≡ value_listed values.now order.now base place }
 {
-    let row = wide_entry(order[base + place]);
-    values[base + row]
+    values[base + usize::from(order[base + place])]
 }
 
 fn is_between(least: usize, n: usize, most: usize) -> bool
     ensures { result ≡ between least n most }
 {
-    if n < least {
-        return false;
-    }
-    n <= most
+    least <= n && n <= most
 }
 
+#[tactic(auto, unfolding(crate::specs::Check::grid_holds))]
 pub fn grid_holds(rows: usize, columns: usize) -> bool
     ensures { result ≡ grid_holds rows columns }
 {
-    if !is_between(1, rows, MOST_ROWS) {
-        return false;
-    }
-    is_between(1, columns, MOST_COLUMNS)
+    is_between(1, rows, MOST_ROWS) && is_between(1, columns, MOST_COLUMNS)
 }
 
+#[tactic(auto, unfolding(crate::specs::Check::size_holds))]
 pub fn size_holds(size: Size) -> bool
     ensures { result ≡ size_holds size.rows size.columns size.labels }
 {
-    if !grid_holds(size.rows, size.columns) {
-        return false;
-    }
-    is_between(1, size.labels, MOST_LABELS)
+    grid_holds(size.rows, size.columns) && is_between(1, size.labels, MOST_LABELS)
 }
 
+#[tactic(auto, unfolding(crate::specs::Check::terms_hold))]
 pub fn terms_hold(terms: Terms) -> bool
     ensures { result ≡ terms_hold terms }
 {
-    if MOST_SUPPORT < terms.support {
-        return false;
-    }
-    if MOST_ERROR < terms.gap {
-        return false;
-    }
-    if MOST_ERROR < terms.error {
-        return false;
-    }
-    terms.bound <= MOST_ERROR
+    terms.support <= MOST_SUPPORT
+        && terms.gap <= MOST_ERROR
+        && terms.error <= MOST_ERROR
+        && terms.bound <= MOST_ERROR
 }

@@ -1,21 +1,18 @@
-use mathlib.Core.Path.{sym, ap, ◌∙◌}
+-- `sheet::first_bad_value` meets its contract.
+use mathlib.Core.Path.{◌∙◌}
 use mathlib.Core.Bool.{not}
-use native.Mathlib.Omega.{arith}
-use borrow.Author.Rules.{rules}
+use lib.Ieee.{Float, nan}
+use Rattle.std.proofs.Common.{rules, tests}
+use Rattle.std.proofs.lemmas.Iterator.{YieldsList-from_slice}
+use Rattle.std.proofs.lemmas.Iterator.Search.{position_from_yields_List}
+use Rattle.threshold.specs.Threshold.{within}
 use Rattle.sheet.specs.Check.{bad_value}
-use Rattle.sheet.proofs.Search.{clean_none, clean_more, clean_stop, clean_all, truth, untruth}
+use Rattle.sheet.proofs.Search.{position_place}
 use Rattle.sheet.proofs.first_bad_value.Goals as goal
 
-pub loop-i-init : goal.loop-i-init
-loop-i-init c = (search rules, clean_none)
-
-pub returns-then-not-in_range : goal.returns-then-not-in_range
-unfolding bad_value
-returns-then-not-in_range c = clean_stop c.loop-i.invariant.1 (omega arith) (truth (ap not (sym c.in_range.ensures ∙ c.if-not-in_range.true)))
-
-pub loop-i-preserved : goal.loop-i-preserved
-unfolding bad_value
-loop-i-preserved c = (search rules, clean_more c.loop-i.invariant.1 (untruth (ap not (sym c.in_range.ensures ∙ c.if-not-in_range.false))))
-
 pub returns : goal.returns
-returns c = clean_all c.loop-i.invariant.1 (omega arith)
+unfolding bad_value
+returns c =
+    position_from_yields_List (λ (value : Float). not (within value)) _ _ c.position.result c.position.ensures.ran
+    (YieldsList-from_slice _ c.iter.ensures.rest) (λ x b q k. search (rules, tests))
+    ∙ position_place (λ (value : Float). not (within value)) c.args.values.now nan
