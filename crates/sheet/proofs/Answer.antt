@@ -5,14 +5,13 @@ use lib.ListN.{length}
 use lib.Dec.{T, leb, eqb, leb→le, eqb→eq}
 use Rattle.basics.proofs.Choice.{and_left, and_right}
 use Rattle.sheet.specs.declared.Terms.{Terms}
-use Rattle.sheet.specs.declared.Checked.{Checked}
-use Rattle.sheet.specs.declared.Checked.TheVariants.{Accepted}
+use Rattle.std.specs.Prelude.{Ok}
+use Rattle.sheet.specs.declared.refusals.Reason.TheVariants.{LengthWrong, ScratchShort, TermAbove, LabelHigh, OrderWrong, ValueFalls, CutsWrong}
 use Rattle.sheet.specs.Limits.{most_rows, most_columns, most_labels, most_support, most_error}
-use Rattle.sheet.specs.Reasons.{length_wrong, scratch_short, term_above, label_high, order_wrong, value_falls, cuts_wrong}
 use Rattle.sheet.specs.Sheet.{Sheet}
 use Rattle.sheet.specs.Sound.{Limited}
 use Rattle.sheet.specs.Laws.{Lengths, TermsLimited}
-use Rattle.sheet.specs.Check.{cells_of, between, grid_holds, size_holds, lengths_hold, bad_label, bad_order, falls, bad_cuts, at_index, reason, content_of, whole, terms_hold, scratch_holds}
+use Rattle.sheet.specs.Check.{cells_of, between, grid_holds, size_holds, lengths_hold, bad_label, bad_order, falls, bad_cuts, at_index, Verdict, reason, content_of, whole, terms_hold, scratch_holds}
 
 -- ---- reasons 1 to 4
 
@@ -82,26 +81,26 @@ measured_lists s t =
     }
 
 module _ (s : Sheet) (t : Terms) (words : ℕ) where
-  abbrev pub rest4 : Checked
-  rest4 = whole term_above (terms_hold t) (content_of s)
+  abbrev pub rest4 : Verdict
+  rest4 = whole TermAbove (terms_hold t) (content_of s)
 
-  abbrev pub rest3 : Checked
-  rest3 = whole scratch_short (scratch_holds s words) rest4
+  abbrev pub rest3 : Verdict
+  rest3 = whole ScratchShort (scratch_holds s words) rest4
 
-  abbrev pub rest2 : Checked
-  rest2 = whole length_wrong (lengths_hold s) rest3
+  abbrev pub rest2 : Verdict
+  rest2 = whole LengthWrong (lengths_hold s) rest3
 
 -- ---- reasons 5 to 9
 
 module _ (s : Sheet) where
-  abbrev pub rest9 : Checked
-  rest9 = reason cuts_wrong s.columns (bad_cuts s) Accepted
+  abbrev pub rest9 : Verdict
+  rest9 = reason CutsWrong s.columns (bad_cuts s) (Ok tt)
 
-  abbrev pub rest8 : Checked
-  rest8 = reason value_falls (cells_of s) (at_index (falls s) s.rows) rest9
+  abbrev pub rest8 : Verdict
+  rest8 = reason ValueFalls (cells_of s) (at_index (falls s) s.rows) rest9
 
-  abbrev pub rest7 : Checked
-  rest7 = reason order_wrong (cells_of s) (at_index (bad_order s) s.rows) rest8
+  abbrev pub rest7 : Verdict
+  rest7 = reason OrderWrong (cells_of s) (at_index (bad_order s) s.rows) rest8
 
-  abbrev pub rest6 : Checked
-  rest6 = reason label_high s.rows (bad_label s.codes s.labels) rest7
+  abbrev pub rest6 : Verdict
+  rest6 = reason LabelHigh s.rows (bad_label s.codes s.labels) rest7

@@ -1,6 +1,6 @@
 -- A reason is given exactly when its condition holds, at no earlier place, and no lower one holds anywhere. Each test of the check passes exactly where
 -- the plain condition holds; a walk stops at the first such place; and two answers that both fit the conditions are the same one. Assumes nothing.
-use mathlib.Core.Path.{◌≡◌, refl, sym, ap, ◌∙◌, subst}
+use mathlib.Core.Path.{◌≡◌, refl, sym, ap, subst}
 use mathlib.Core.Logic.{◌⊎◌, inl, inr, ⊎_elim}
 use Prim.Native.Nat.{ℕ, suc, ◌+◌, ◌-◌, ◌*◌, ◌/◌, ◌%◌, ◌≤◌, ◌<◌}
 use native.Mathlib.Omega.{arith}
@@ -14,12 +14,15 @@ use Rattle.basics.specs.Walk.{walk}
 use Rattle.basics.proofs.Choice.{by_test, either, order, and_left, and_right, and_both, nand_left, nand_right, nleb}
 use Rattle.threshold.specs.Threshold.{within}
 use Rattle.sheet.specs.declared.Terms.{Terms}
-use Rattle.sheet.specs.declared.Checked.{Checked}
-use Rattle.sheet.specs.declared.Checked.TheVariants.{Accepted, Refused}
+use mathlib.Core.Option.{some}
+use Rattle.std.specs.Prelude.{Ok, Err}
+use Rattle.sheet.specs.declared.refusals.Reason.{Reason}
+use Rattle.sheet.specs.declared.refusals.Reason.TheVariants as reasons
+use Rattle.sheet.specs.Reasons.{number_of, refused, reason_of}
 use Rattle.sheet.specs.Limits.{most_rows, most_columns, most_labels, most_support, most_error, words_per_row}
 use Rattle.sheet.specs.Sheet.{Sheet, value_of, label_of, row_at, value_at, places_of}
 use Rattle.sheet.specs.Sound.{Limited}
-use Rattle.sheet.specs.Check.{cells_of, between, grid_holds, size_holds, lengths_hold, scratch_holds, terms_hold, bad_value, bad_label, bad_order, met, falls, bad_cuts, cuts_of, same, at_index, reason, whole, content_of, check_of}
+use Rattle.sheet.specs.Check.{cells_of, between, grid_holds, size_holds, lengths_hold, scratch_holds, terms_hold, bad_value, bad_label, bad_order, met, falls, bad_cuts, cuts_of, same, at_index, Verdict, reason, whole, content_of, check_of}
 use Rattle.sheet.specs.Laws.{Lengths, conditions_of, Condition, First, GivenExactly, AcceptedExactly, TermAbove, ValueOutside, LabelHigh, OrderWrong, ValueFalls, CutsWrong}
 use Rattle.sheet.proofs.Search.{untruth}
 use Rattle.sheet.proofs.Numbered.{None, next, none0, first_whole, scanned, same_refusal}
@@ -232,21 +235,22 @@ module _ (s : Sheet) (t : Terms) (words : ℕ) where
   abbrev C : ℕ → ℕ → Type 0
   C n p = Condition s t words n p
 
-  abbrev Fitting : Checked → Type 0
-  Fitting Accepted = (n p : ℕ) → C n p → ⊥
-  Fitting (Refused n p) = First C n p
+  abbrev Fitting : Verdict → Type 0
+  Fitting (Ok accepted) = (n p : ℕ) → C n p → ⊥
+  Fitting (Err refusal) = First C (number_of refusal.reason) refusal.place
 
-  by_whole : (k : ℕ) (holds : Bool) (rest : Checked) → ((q : ℕ) → C (suc k) q → T (not holds)) → (T (not holds) → C (suc k) 0) → None C k
-      → (T holds → None C (suc k) → Fitting rest) → Fitting (whole (suc k) holds rest)
-  by_whole k holds rest to from none go =
+  by_whole : (why : Reason) (k : ℕ) → suc k ≡ number_of why → (holds : Bool) (rest : Verdict) → ((q : ℕ) → C (suc k) q → T (not holds))
+      → (T (not holds) → C (suc k) 0) → None C k → (T holds → None C (suc k) → Fitting rest) → Fitting (whole why holds rest)
+  by_whole why k e holds rest to from none go =
       by_test Fitting holds (λ u. go u (next C k none (λ q x. T_not holds (to q x) u)))
-      (λ u. first_whole C k none (from u))
+      (λ u. subst (λ n. First C n 0) e (first_whole C k none (from u)))
 
-  by_scan : (k places : ℕ) (bad : ℕ → Bool) (rest : Checked) → ((q : ℕ) → C (suc k) q → (q < places) × T (bad q))
-      → ((q : ℕ) → q < places → T (bad q) → C (suc k) q) → None C k → (None C (suc k) → Fitting rest)
-      → Fitting (reason (suc k) places bad rest)
+  by_scan : (why : Reason) (k : ℕ) → suc k ≡ number_of why → (places : ℕ) (bad : ℕ → Bool) (rest : Verdict)
+      → ((q : ℕ) → C (suc k) q → (q < places) × T (bad q)) → ((q : ℕ) → q < places → T (bad q) → C (suc k) q) → None C k
+      → (None C (suc k) → Fitting rest) → Fitting (reason why places bad rest)
   unfolding reason
-  by_scan k places bad rest to from none go = scanned C Fitting k places bad (Refused (suc k) (walk bad places 0)) rest to from none (λ x. x) go
+  by_scan why k e places bad rest to from none go =
+      scanned C Fitting k places bad (Err (refused why (walk bad places 0))) rest to from none (λ x. subst (λ n. First C n (walk bad places 0)) e x) go
 
   beyond : (m q : ℕ) → 9 < m → C m q → ⊥
   beyond m q h x = subst (λ X. X) (get_or-eq_default (conditions_of s t words q) ⊥ {n = m} (omega arith)) x
@@ -254,46 +258,53 @@ module _ (s : Sheet) (t : Terms) (words : ℕ) where
   pub fitting : Fitting (check_of s t words)
   unfolding check_of content_of
   fitting =
-      by_whole 0 (size_holds s.rows s.columns s.labels) (rest2 s t words) (λ q x. size_to s x.1) (λ u. (refl, size_from s u)) (none0 C (λ q x. x))
+      by_whole reasons.SizeOutside 0 refl (size_holds s.rows s.columns s.labels) (rest2 s t words) (λ q x. size_to s x.1) (λ u. (refl, size_from s u)) (none0 C (λ q x. x))
       (λ a n1.
       let some : 1 ≤ s.rows = (limited s a).rows_some in
-      by_whole 1 (lengths_hold s) (rest3 s t words) (λ q x. lengths_to s x.1) (λ u. (refl, lengths_from s u)) n1
+      by_whole reasons.LengthWrong 1 refl (lengths_hold s) (rest3 s t words) (λ q x. lengths_to s x.1) (λ u. (refl, lengths_from s u)) n1
       (λ _ n2.
-      by_whole 2 (scratch_holds s words) (rest4 s t words) (λ q x. scratch_to s words x.1) (λ u. (refl, scratch_from s words u)) n2
+      by_whole reasons.ScratchShort 2 refl (scratch_holds s words) (rest4 s t words) (λ q x. scratch_to s words x.1) (λ u. (refl, scratch_from s words u)) n2
       (λ _ n3.
-      by_whole 3 (terms_hold t) (content_of s) (terms_to t) (terms_from t) n3
+      by_whole reasons.TermAbove 3 refl (terms_hold t) (content_of s) (terms_to t) (terms_from t) n3
       (λ _ n4.
-      by_scan 4 (cells_of s) (bad_value s.values) (rest6 s) (value_to s some) (value_from s some) n4
+      by_scan reasons.ValueOutside 4 refl (cells_of s) (bad_value s.values) (rest6 s) (value_to s some) (value_from s some) n4
       (λ n5.
-      by_scan 5 s.rows (bad_label s.codes s.labels) (rest7 s) (label_to s) (label_from s) n5
+      by_scan reasons.LabelHigh 5 refl s.rows (bad_label s.codes s.labels) (rest7 s) (label_to s) (label_from s) n5
       (λ n6.
-      by_scan 6 (cells_of s) (at_index (bad_order s) s.rows) (rest8 s) (order_to s some) (order_from s some) n6
+      by_scan reasons.OrderWrong 6 refl (cells_of s) (at_index (bad_order s) s.rows) (rest8 s) (order_to s some) (order_from s some) n6
       (λ n7.
-      by_scan 7 (cells_of s) (at_index (falls s) s.rows) (rest9 s) (falls_to s some) (falls_from s some) n7
+      by_scan reasons.ValueFalls 7 refl (cells_of s) (at_index (falls s) s.rows) (rest9 s) (falls_to s some) (falls_from s some) n7
       (λ n8.
-      by_scan 8 s.columns (bad_cuts s) Accepted (cuts_to s some) (cuts_from s) n8
+      by_scan reasons.CutsWrong 8 refl s.columns (bad_cuts s) (Ok tt) (cuts_to s some) (cuts_from s) n8
       (λ n9 m q x. order m 9 (λ l. n9 m q l x) (λ g. beyond m q g x))))))))))
 
-  -- ---- two answers that fit are the same
+  -- ---- and no other answer does
 
-  same_answer : (a b : Checked) → Fitting a → Fitting b → a ≡ b
-  same_answer Accepted Accepted x y = refl
-  same_answer Accepted (Refused n p) x y = absurd (x n p y.here)
-  same_answer (Refused n p) Accepted x y = absurd (y n p x.here)
-  same_answer (Refused n p) (Refused m q) x y =
-      let w = same_refusal C n p m q x y in
-      ap (λ (k : ℕ). Refused k p) w.0 ∙ ap (λ (k : ℕ). Refused m k) w.1
+  told : (n p : ℕ) (r : Verdict) → Fitting r → reason_of r ≡ some (n, p) → First C n p
+  told n p (Ok accepted) x e = absurd cc
+  told n p (Err refusal) x e =
+      let both : (ℕ × ℕ) = (number_of refusal.reason, refusal.place) in
+      let w : both ≡ (n, p) = cc in
+      let f : number_of refusal.reason ≡ n = ap (λ (q : ℕ × ℕ). q.0) w in
+      let g : refusal.place ≡ p = ap (λ (q : ℕ × ℕ). q.1) w in
+      subst (λ q. First C n q) g (subst (λ m. First C m refusal.place) f x)
+
+  tells : (n p : ℕ) (r : Verdict) → Fitting r → First C n p → reason_of r ≡ some (n, p)
+  tells n p (Ok accepted) x y = absurd (x n p y.here)
+  tells n p (Err refusal) x y = let w = same_refusal C (number_of refusal.reason) refusal.place n p x y in cc
+
+  takes : (r : Verdict) → Fitting r → ((n p : ℕ) → C n p → ⊥) → r ≡ Ok tt
+  takes (Ok accepted) x y = refl
+  takes (Err refusal) x y = absurd (y (number_of refusal.reason) refusal.place x.here)
 
 -- ---- the laws
 
 pub given_exactly : GivenExactly
-given_exactly s t words n p = (
-  λ e. subst (λ r. Fitting s t words r) e (fitting s t words),
-  λ x. same_answer s t words (check_of s t words) (Refused n p) (fitting s t words) x,
-)
+given_exactly s t words n p =
+    (told s t words n p (check_of s t words) (fitting s t words), tells s t words n p (check_of s t words) (fitting s t words))
 
 pub accepted_exactly : AcceptedExactly
 accepted_exactly s t words = (
   λ e. subst (λ r. Fitting s t words r) e (fitting s t words),
-  λ x. same_answer s t words (check_of s t words) Accepted (fitting s t words) x,
+  takes s t words (check_of s t words) (fitting s t words),
 )

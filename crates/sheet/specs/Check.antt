@@ -1,6 +1,6 @@
 -- For a signer. Document 01, "Reasons a call turns back", reasons 1 to 9: what the input check answers for any inputs whatever. Definitions
 -- only.
-use Rattle.std.specs.Prelude.{ℕ, ◌-◌, ◌*◌, ◌/◌, ◌%◌, Bool, true, false, not, ◌&&◌, ◌||◌, List, [], ◌∷◌, ◌++◌, length, get_or, drop, replicate, leb, ltb, eqb, Float}
+use Rattle.std.specs.Prelude.{ℕ, ◌-◌, ◌*◌, ◌/◌, ◌%◌, Bool, true, false, not, ◌&&◌, ◌||◌, List, [], ◌∷◌, ◌++◌, length, get_or, drop, replicate, leb, ltb, eqb, Float, Result, Ok, Err}
 use Rattle.std.specs.Float.{nan}
 use Rattle.basics.specs.Choice.{pick}
 use Rattle.basics.specs.Lists.{those}
@@ -9,10 +9,11 @@ use Rattle.threshold.specs.Order.{is_below}
 use Rattle.threshold.specs.Threshold.{within}
 use Rattle.sheet.specs.declared.Size.{Size}
 use Rattle.sheet.specs.declared.Terms.{Terms}
-use Rattle.sheet.specs.declared.Checked.{Checked}
-use Rattle.sheet.specs.declared.Checked.TheVariants.{Accepted, Refused}
+use Rattle.sheet.specs.declared.refusals.Reason.{Reason}
+use Rattle.sheet.specs.declared.refusals.Reason.TheVariants.{SizeOutside, LengthWrong, ScratchShort, TermAbove, ValueOutside, LabelHigh, OrderWrong, ValueFalls, CutsWrong}
+use Rattle.sheet.specs.declared.refusals.Refusal.{Refusal}
 use Rattle.sheet.specs.Limits.{most_rows, most_columns, most_labels, most_support, most_error, words_per_row}
-use Rattle.sheet.specs.Reasons.{size_outside, length_wrong, scratch_short, term_above, value_outside, label_high, order_wrong, value_falls, cuts_wrong}
+use Rattle.sheet.specs.Reasons.{number_of, refused}
 use Rattle.sheet.specs.Sheet.{Sheet, row_at, value_at, is_cut, every_row, places_of}
 
 -- the sheet that the lent slices hold
@@ -109,29 +110,33 @@ bad_cuts s c = not (same (places_of s c) (cuts_of s c))
 abbrev pub at_index : (ℕ → ℕ → Bool) → ℕ → ℕ → Bool
 at_index bad rows index = bad (index / rows) (index % rows)
 
--- turned back by this number, with the first of the places that fails; else the rest
-unfoldable pub reason : ℕ → ℕ → (ℕ → Bool) → Checked → Checked
-reason number places bad rest = let p : ℕ = walk bad places 0 in pick (ltb p places) (Refused number p) rest
+-- a sheet is accepted, or turned back for a reason and at a place
+abbrev pub Verdict : Type 0
+Verdict = Result (Unit {0}) Refusal
+
+-- turned back for this reason, with the first of the places that fails; else the rest
+unfoldable pub reason : Reason → ℕ → (ℕ → Bool) → Verdict → Verdict
+reason why places bad rest = let p : ℕ = walk bad places 0 in pick (ltb p places) (Err (refused why p)) rest
 
 -- what concerns the whole call is reported at place 0
-abbrev pub whole : ℕ → Bool → Checked → Checked
-whole number holds rest = pick holds rest (Refused number 0)
+abbrev pub whole : Reason → Bool → Verdict → Verdict
+whole why holds rest = pick holds rest (Err (refused why 0))
 
 -- reasons 5 to 9: what the lists hold
-unfoldable pub content_of : Sheet → Checked
+unfoldable pub content_of : Sheet → Verdict
 content_of s =
-    reason value_outside (cells_of s) (bad_value s.values)
-    (reason label_high s.rows (bad_label s.codes s.labels)
-    (reason order_wrong (cells_of s) (at_index (bad_order s) s.rows)
-    (reason value_falls (cells_of s) (at_index (falls s) s.rows)
-    (reason cuts_wrong s.columns (bad_cuts s) Accepted))))
+    reason ValueOutside (cells_of s) (bad_value s.values)
+    (reason LabelHigh s.rows (bad_label s.codes s.labels)
+    (reason OrderWrong (cells_of s) (at_index (bad_order s) s.rows)
+    (reason ValueFalls (cells_of s) (at_index (falls s) s.rows)
+    (reason CutsWrong s.columns (bad_cuts s) (Ok tt)))))
 
-unfoldable pub check_of : Sheet → Terms → ℕ → Checked
+unfoldable pub check_of : Sheet → Terms → ℕ → Verdict
 check_of s t words =
-    whole size_outside (size_holds s.rows s.columns s.labels)
-    (whole length_wrong (lengths_hold s)
-    (whole scratch_short (scratch_holds s words)
-    (whole term_above (terms_hold t)
+    whole SizeOutside (size_holds s.rows s.columns s.labels)
+    (whole LengthWrong (lengths_hold s)
+    (whole ScratchShort (scratch_holds s words)
+    (whole TermAbove (terms_hold t)
     (content_of s))))
 
 -- ---- "After search reasons 1 to 4 scratch is untouched; after every other search call the first 8·rows words are 0 and the rest untouched."
@@ -139,6 +144,6 @@ check_of s t words =
 abbrev pub cleared : ℕ → List ℕ → List ℕ
 cleared words scratch = replicate words 0 ++ drop words scratch
 
-unfoldable pub scratch_after : Checked → ℕ → List ℕ → List ℕ
-scratch_after Accepted rows scratch = cleared (words_per_row * rows) scratch
-scratch_after (Refused number place) rows scratch = pick (leb number term_above) scratch (cleared (words_per_row * rows) scratch)
+unfoldable pub scratch_after : Verdict → ℕ → List ℕ → List ℕ
+scratch_after (Ok accepted) rows scratch = cleared (words_per_row * rows) scratch
+scratch_after (Err refusal) rows scratch = pick (leb (number_of refusal.reason) 4) scratch (cleared (words_per_row * rows) scratch)

@@ -1,15 +1,16 @@
 -- For a signer. What holds of the input check, as statements; `proofs/` proves each. The conditions of the table stand here once more, with no
 -- search in them: "for all" and "there is", so that a reader need not trust the order of any scan.
-use Rattle.std.specs.Prelude.{◌≡◌, ◌⊎◌, ℕ, ◌+◌, ◌-◌, ◌*◌, ◌≤◌, ◌<◌, List, [], ◌∷◌, length, get_or, T}
+use Rattle.std.specs.Prelude.{◌≡◌, ◌⊎◌, ℕ, ◌+◌, ◌-◌, ◌*◌, ◌≤◌, ◌<◌, List, [], ◌∷◌, length, get_or, T, Ok}
+use Rattle.std.proofs.Math.Option.{some}
 use Rattle.std.specs.Float.{nan, binary64}
 use Rattle.std.specs.Float.Ieee.{fits}
 use Rattle.threshold.specs.Order.{is_below}
 use Rattle.threshold.specs.Threshold.{within}
 use Rattle.sheet.specs.declared.Terms.{Terms}
-use Rattle.sheet.specs.declared.Checked.TheVariants.{Accepted, Refused}
 use Rattle.sheet.specs.Limits.{most_support, most_error, words_per_row}
 use Rattle.sheet.specs.Sheet.{Sheet, value_of, label_of, row_at, value_at}
 use Rattle.sheet.specs.Sound.{Limited, Cuts, Sound}
+use Rattle.sheet.specs.Reasons.{reason_of}
 use Rattle.sheet.specs.Check.{check_of}
 
 -- ---- the conditions, each of a place
@@ -92,14 +93,15 @@ pub record First (C : ℕ → ℕ → Type 0) (n p : ℕ) : Type 0 where
 abbrev pub GivenExactly : Type 0
 GivenExactly =
     (s : Sheet) (t : Terms) (words n p : ℕ)
-    → (check_of s t words ≡ Refused n p → First (Condition s t words) n p) × (First (Condition s t words) n p → check_of s t words ≡ Refused n p)
+    → (reason_of (check_of s t words) ≡ some (n, p) → First (Condition s t words) n p)
+    × (First (Condition s t words) n p → reason_of (check_of s t words) ≡ some (n, p))
 
 -- and a sheet of which none holds is accepted, and no other
 abbrev pub AcceptedExactly : Type 0
 AcceptedExactly =
     (s : Sheet) (t : Terms) (words : ℕ)
-    → (check_of s t words ≡ Accepted → (n p : ℕ) → Condition s t words n p → ⊥)
-    × (((n p : ℕ) → Condition s t words n p → ⊥) → check_of s t words ≡ Accepted)
+    → (check_of s t words ≡ Ok tt → (n p : ℕ) → Condition s t words n p → ⊥)
+    × (((n p : ℕ) → Condition s t words n p → ⊥) → check_of s t words ≡ Ok tt)
 
 -- ---- what an accepted sheet is
 
@@ -108,7 +110,7 @@ abbrev pub Doubles : Sheet → Type 0
 Doubles s = (i : ℕ) → T (fits binary64 (get_or s.values i nan))
 
 abbrev pub AcceptedSound : Type 0
-AcceptedSound = (s : Sheet) (t : Terms) (words : ℕ) → Doubles s → check_of s t words ≡ Accepted → Sound s
+AcceptedSound = (s : Sheet) (t : Terms) (words : ℕ) → Doubles s → check_of s t words ≡ Ok tt → Sound s
 
 -- ---- good input is never refused
 
@@ -122,4 +124,4 @@ pub record TermsLimited (t : Terms) : Type 0 where
 -- a sound sheet in slices of the right lengths, with room enough, is accepted
 abbrev pub SoundAccepted : Type 0
 SoundAccepted =
-    (s : Sheet) (t : Terms) (words : ℕ) → Sound s → Lengths s → words_per_row * s.rows ≤ words → TermsLimited t → check_of s t words ≡ Accepted
+    (s : Sheet) (t : Terms) (words : ℕ) → Sound s → Lengths s → words_per_row * s.rows ≤ words → TermsLimited t → check_of s t words ≡ Ok tt
