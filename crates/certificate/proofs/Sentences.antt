@@ -5,12 +5,12 @@ use mathlib.Core.Path.{◌≡◌, refl, sym, ap, ◌∙◌, subst}
 use Prim.Native.Nat.{ℕ, ◌+◌, ◌≤◌, ◌<◌, min}
 use native.Mathlib.Omega.{arith}
 use mathlib.Core.Option.{Option, none, some}
+use Rattle.std.specs.Prelude.{Ok}
 use Rattle.basics.specs.Choice.{Hit}
 use Rattle.threshold.proofs.Keys.{finite_comparable}
 use Rattle.sheet.specs.Sheet.{Sheet, count_of}
 use Rattle.sheet.specs.Sound.{Sound}
 use Rattle.sheet.specs.declared.Terms.{Terms}
-use Rattle.sheet.specs.declared.Checked.TheVariants.{Accepted}
 use Rattle.sheet.specs.Check.{check_of}
 use Rattle.sheet.specs.Laws.{Doubles}
 use Rattle.sheet.specs.Rows.{sent_left}
@@ -39,7 +39,7 @@ use Rattle.certificate.proofs.Judging.{proper, tree_sum, taken, told_wrong}
 
 -- ---- the answer of an accepted call
 
-answer_is : (s : Sheet) (t : Terms) (words : ℕ) → check_of s t words ≡ Accepted → search_of s t words ≡ answer_holding s t (searched s t) (searched s t).best
+answer_is : (s : Sheet) (t : Terms) (words : ℕ) → check_of s t words ≡ Ok tt → search_of s t words ≡ answer_holding s t (searched s t) (searched s t).best
 unfolding search_of answer_after
 answer_is s t words e = ap (answer_after s t) e
 
@@ -48,15 +48,15 @@ unfolding answer_holding tree_at
 error_is s t p none = refl
 error_is s t p (some cut) = refl
 
-final_is : (s : Sheet) (t : Terms) (words : ℕ) → check_of s t words ≡ Accepted → final_error (search_of s t words) ≡ some (searched s t).error
+final_is : (s : Sheet) (t : Terms) (words : ℕ) → check_of s t words ≡ Ok tt → final_error (search_of s t words) ≡ some (searched s t).error
 final_is s t words e = ap final_error (answer_is s t words e) ∙ error_is s t (searched s t) (searched s t).best
 
 -- what holds of the final error
-final : (P : ℕ → Type 0) (s : Sheet) (t : Terms) (words : ℕ) → check_of s t words ≡ Accepted → P (searched s t).error → Hit P (final_error (search_of s t words))
+final : (P : ℕ → Type 0) (s : Sheet) (t : Terms) (words : ℕ) → check_of s t words ≡ Ok tt → P (searched s t).error → Hit P (final_error (search_of s t words))
 final P s t words e h = subst (Hit P) (sym (final_is s t words e)) h
 
 -- the error falls or stays, and a lower one is that of the cut named
-falls_or_stays : (s : Sheet) (t : Terms) (words : ℕ) → Doubles s → check_of s t words ≡ Accepted → Bettered s t t.error (searched s t)
+falls_or_stays : (s : Sheet) (t : Terms) (words : ℕ) → Doubles s → check_of s t words ≡ Ok tt → Bettered s t t.error (searched s t)
 falls_or_stays s t words doubles e = error_falls s t (accepted_parts s t words doubles e).0
 
 -- ---- 1
@@ -79,7 +79,7 @@ never_worse s t words doubles e = final (λ n. n ≤ t.error) s t words e (falls
 
 -- ---- 3
 
-module _ (s : Sheet) (t : Terms) (words : ℕ) (sound : Sound s) (e : check_of s t words ≡ Accepted) (c k error : ℕ) (here : c < s.columns) (listed : k < count_of s c)
+module _ (s : Sheet) (t : Terms) (words : ℕ) (sound : Sound s) (e : check_of s t words ≡ Ok tt) (c k error : ℕ) (here : c < s.columns) (listed : k < count_of s c)
     (is : error ≡ cut_error s t c k) where
   left_told : Told s t.support (sent_left s (cut_question s c k)) (sides_at s t.support c k).left
   unfolding sides_at

@@ -1,12 +1,11 @@
 -- For a signer. What whoever signs relies on, of any inputs that the search accepts, as statements; `proofs/` proves each. The final error is
 -- the error in the answer, Kept or Found. `Doubles` says that the sheet's values are f64, as those of every slice are.
-use Rattle.std.specs.Prelude.{◌≡◌, ℕ, ◌+◌, ◌≤◌, ◌<◌, min, T}
+use Rattle.std.specs.Prelude.{◌≡◌, ℕ, ◌+◌, ◌≤◌, ◌<◌, min, T, Ok}
 use Rattle.std.specs.Float.{binary64}
 use Rattle.std.specs.Float.Ieee.{fits}
 use Rattle.basics.specs.Choice.{Hit}
 use Rattle.sheet.specs.Sheet.{Sheet}
 use Rattle.sheet.specs.declared.Terms.{Terms}
-use Rattle.sheet.specs.declared.Checked.TheVariants.{Accepted}
 use Rattle.sheet.specs.Check.{check_of}
 use Rattle.sheet.specs.Laws.{Doubles}
 use Rattle.sheet.specs.Rows.{rows_at}
@@ -50,14 +49,14 @@ pub record AnyTree (s : Sheet) (tree : Tree) (j : Judgement) : Type 0 where
 -- 1. "Take support 0 or 1, and any two-level tree .. Let it make e mistakes on the sheet. Then min(final error, upper bound) ≤ e + gap."
 abbrev pub NothingBetter : Type 0
 NothingBetter =
-    (s : Sheet) (t : Terms) (words : ℕ) → Doubles s → check_of s t words ≡ Accepted → t.support ≤ 1
+    (s : Sheet) (t : Terms) (words : ℕ) → Doubles s → check_of s t words ≡ Ok tt → t.support ≤ 1
     → (tree : Tree) (j : Judgement) → AnyTree s tree j
     → Hit (λ final. min final t.bound ≤ j.mistakes + t.gap) (final_error (search_of s t words))
 
 -- 2. "For any support the final error never exceeds the starting one"
 abbrev pub NeverWorse : Type 0
 NeverWorse =
-    (s : Sheet) (t : Terms) (words : ℕ) → Doubles s → check_of s t words ≡ Accepted
+    (s : Sheet) (t : Terms) (words : ℕ) → Doubles s → check_of s t words ≡ Ok tt
     → Hit (λ final. final ≤ t.error) (final_error (search_of s t words))
 
 -- what a leaf says came to it, and a side of its leaves
@@ -79,7 +78,7 @@ pub record AsItSays (s : Sheet) (tree : Tree) : Type 0 where
 -- 3. "and if it is lower, the returned tree, run over the rows, makes exactly that many mistakes, leaf by leaf"
 abbrev pub TreeTells : Type 0
 TreeTells =
-    (s : Sheet) (t : Terms) (words : ℕ) → Doubles s → check_of s t words ≡ Accepted
+    (s : Sheet) (t : Terms) (words : ℕ) → Doubles s → check_of s t words ≡ Ok tt
     → Hit
     (λ final. final < t.error → Hit (λ tree. (tree.error ≡ final) × AsItSays s tree) (rule_of (search_of s t words)))
     (final_error (search_of s t words))
@@ -87,8 +86,8 @@ TreeTells =
 -- ---- the three sentences of one answer r
 
 pub record Certified (s : Sheet) (t : Terms) (words : ℕ) (r : Answer) : Type 0 where
-  pub nothing_better : check_of s t words ≡ Accepted → t.support ≤ 1 → (tree : Tree) (j : Judgement) → AnyTree s tree j
+  pub nothing_better : check_of s t words ≡ Ok tt → t.support ≤ 1 → (tree : Tree) (j : Judgement) → AnyTree s tree j
       → Hit (λ final. min final t.bound ≤ j.mistakes + t.gap) (final_error r)
-  pub never_worse : check_of s t words ≡ Accepted → Hit (λ final. final ≤ t.error) (final_error r)
-  pub tree_tells : check_of s t words ≡ Accepted
+  pub never_worse : check_of s t words ≡ Ok tt → Hit (λ final. final ≤ t.error) (final_error r)
+  pub tree_tells : check_of s t words ≡ Ok tt
       → Hit (λ final. final < t.error → Hit (λ tree. (tree.error ≡ final) × AsItSays s tree) (rule_of r)) (final_error r)

@@ -9,12 +9,12 @@ use lib.Seq.{drop_at}
 use lib.Dec.{T, leb→le}
 use Rattle.basics.specs.Choice.{pick}
 use Rattle.sheet.specs.declared.Terms.{Terms}
-use Rattle.sheet.specs.declared.Checked.{Checked}
-use Rattle.sheet.specs.declared.Checked.TheVariants.{Accepted}
+use Rattle.std.specs.Prelude.{Ok}
+use Rattle.sheet.specs.declared.refusals.Reason.{Reason}
+use Rattle.sheet.specs.declared.refusals.Reason.TheVariants.{SizeOutside, LengthWrong, ScratchShort, TermAbove}
 use Rattle.sheet.specs.Limits.{words_per_row}
-use Rattle.sheet.specs.Reasons.{size_outside, length_wrong, scratch_short, term_above}
 use Rattle.sheet.specs.Sheet.{Sheet}
-use Rattle.sheet.specs.Check.{size_holds, lengths_hold, scratch_holds, terms_hold, whole, content_of, check_of, cleared, scratch_after}
+use Rattle.sheet.specs.Check.{size_holds, lengths_hold, scratch_holds, terms_hold, Verdict, whole, content_of, check_of, cleared, scratch_after}
 use Rattle.sheet.specs.Laws.{Doubles}
 use Rattle.sheet.proofs.Answer.{measured_lists}
 use Rattle.sheet.proofs.Accepted.{accepted_sound}
@@ -22,24 +22,24 @@ use Rattle.column_turns.specs.Lent.{rest_of, Enough, RestKept}
 use Rattle.column_turns.specs.Promise.{Whole}
 
 -- a condition of the whole call passed, and so did the rest
-passes : (number : ℕ) (holds : Bool) (rest : Checked) → whole number holds rest ≡ Accepted → T holds × (rest ≡ Accepted)
+passes : (why : Reason) (holds : Bool) (rest : Verdict) → whole why holds rest ≡ Ok tt → T holds × (rest ≡ Ok tt)
 unfolding pick
-passes number true rest e = (tt, e)
-passes number false rest e = let z : ◌≡◌ {A = ℕ} 0 1 = cc in absurd (omega arith)
+passes why true rest e = (tt, e)
+passes why false rest e = absurd cc
 
-pub accepted_parts : (s : Sheet) (t : Terms) (words : ℕ) → Doubles s → check_of s t words ≡ Accepted → Whole s × (words_per_row * s.rows ≤ words)
+pub accepted_parts : (s : Sheet) (t : Terms) (words : ℕ) → Doubles s → check_of s t words ≡ Ok tt → Whole s × (words_per_row * s.rows ≤ words)
 unfolding check_of scratch_holds
 accepted_parts s t words doubles e =
-    let rest4 : Checked = whole term_above (terms_hold t) (content_of s) in
-    let rest3 : Checked = whole scratch_short (scratch_holds s words) rest4 in
-    let first = passes size_outside (size_holds s.rows s.columns s.labels) (whole length_wrong (lengths_hold s) rest3) e in
-    let second = passes length_wrong (lengths_hold s) rest3 first.1 in
-    let third = passes scratch_short (scratch_holds s words) rest4 second.1 in (
+    let rest4 : Verdict = whole TermAbove (terms_hold t) (content_of s) in
+    let rest3 : Verdict = whole ScratchShort (scratch_holds s words) rest4 in
+    let first = passes SizeOutside (size_holds s.rows s.columns s.labels) (whole LengthWrong (lengths_hold s) rest3) e in
+    let second = passes LengthWrong (lengths_hold s) rest3 first.1 in
+    let third = passes ScratchShort (scratch_holds s words) rest4 second.1 in (
       record { sound = accepted_sound s t words doubles e; lengths = measured_lists s second.0 },
       leb→le (words_per_row * s.rows) words third.0,
     )
 
-pub accepted_whole : (s : Sheet) (t : Terms) (xs : List ℕ) → Doubles s → check_of s t (length xs) ≡ Accepted → Whole s × Enough s.rows xs
+pub accepted_whole : (s : Sheet) (t : Terms) (xs : List ℕ) → Doubles s → check_of s t (length xs) ≡ Ok tt → Whole s × Enough s.rows xs
 accepted_whole s t xs doubles e =
     let parts = accepted_parts s t (length xs) doubles e in
     let limited = parts.0.sound.limited in
@@ -53,11 +53,11 @@ cleared_length n xs h = length-append (replicate n 0) (drop n xs) ∙ simp (leng
 cleared_rest : (n : ℕ) (xs : List ℕ) → drop n (cleared n xs) ≡ drop n xs
 cleared_rest n xs = drop_at (replicate n 0) (drop n xs) n (length-replicate n 0)
 
-after_check : (c : Checked) (rows : ℕ) (xs ys : List ℕ) → ys ≡ scratch_after c rows xs → c ≡ Accepted → ys ≡ cleared (words_per_row * rows) xs
+after_check : (c : Verdict) (rows : ℕ) (xs ys : List ℕ) → ys ≡ scratch_after c rows xs → c ≡ Ok tt → ys ≡ cleared (words_per_row * rows) xs
 unfolding scratch_after
-after_check c rows xs ys e a = e ∙ ap (λ (z : Checked). scratch_after z rows xs) a
+after_check c rows xs ys e a = e ∙ ap (λ (z : Verdict). scratch_after z rows xs) a
 
-module _ (s : Sheet) (t : Terms) (xs ys : List ℕ) (checked : Checked) (is : checked ≡ check_of s t (length xs)) (accepted : checked ≡ Accepted)
+module _ (s : Sheet) (t : Terms) (xs ys : List ℕ) (checked : Verdict) (is : checked ≡ check_of s t (length xs)) (accepted : checked ≡ Ok tt)
     (lent : ys ≡ scratch_after checked s.rows xs) where
   pub still_enough : Enough s.rows xs → Enough s.rows ys
   still_enough e =
@@ -70,4 +70,4 @@ module _ (s : Sheet) (t : Terms) (xs ys : List ℕ) (checked : Checked) (is : ch
       let w : ℕ = words_per_row * s.rows in
       ap (λ (l : List ℕ). replicate w 0 ++ l)
       (k.rest ∙ ap (drop w) (after_check checked s.rows xs ys lent accepted) ∙ cleared_rest w xs)
-      ∙ ap (λ (z : Checked). scratch_after z s.rows xs) (sym (sym is ∙ accepted))
+      ∙ ap (λ (z : Verdict). scratch_after z s.rows xs) (sym (sym is ∙ accepted))

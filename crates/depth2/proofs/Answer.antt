@@ -6,19 +6,19 @@ use mathlib.Core.Option.{Option, none, some}
 use mathlib.Core.List.{List}
 use lib.ListN.{length}
 use Rattle.sheet.specs.declared.Terms.{Terms}
-use Rattle.sheet.specs.declared.Checked.{Checked}
-use Rattle.sheet.specs.declared.Checked.TheVariants.{Accepted, Refused}
+use Rattle.std.specs.Prelude.{Ok, Err}
+use Rattle.sheet.specs.declared.refusals.Refusal.{Refusal}
+use Rattle.sheet.specs.Reasons.{turned_back_for}
 use Rattle.sheet.specs.Sheet.{Sheet}
-use Rattle.sheet.specs.Check.{check_of}
-use Rattle.tree.specs.declared.Answer.TheVariants.{TurnedBack}
+use Rattle.sheet.specs.Check.{Verdict, check_of}
 use Rattle.column_turns.specs.declared.interval_steps.Standing.{Standing}
 use Rattle.depth2.specs.Search.{Progress, searched, answer_holding, answer_after, search_of}
 use Rattle.depth2.specs.Columns.{held_of, standing_of, answer_held}
 
 -- a refused sheet is turned back by the check's number and place
-pub refused : (s : Sheet) (t : Terms) (words number place : ℕ) → check_of s t words ≡ Refused number place → TurnedBack number place ≡ search_of s t words
+pub refused : (s : Sheet) (t : Terms) (words : ℕ) (refusal : Refusal) → check_of s t words ≡ Err refusal → turned_back_for refusal ≡ search_of s t words
 unfolding search_of answer_after
-refused s t words number place e = sym (ap (answer_after s t) e)
+refused s t words refusal e = sym (ap (answer_after s t) e)
 
 held_answer : (s : Sheet) (t : Terms) (q : Progress) (best : Option (ℕ × ℕ))
     → answer_held q.error q.tried (held_of s t.support best q.error) ≡ answer_holding s t q best
@@ -26,7 +26,7 @@ unfolding answer_held held_of answer_holding
 held_answer s t q none = refl
 held_answer s t q (some cut) = refl
 
-module _ (s : Sheet) (t : Terms) (xs : List ℕ) (checked : Checked) (is : checked ≡ check_of s t (length xs)) (accepted : checked ≡ Accepted) where
+module _ (s : Sheet) (t : Terms) (xs : List ℕ) (checked : Verdict) (is : checked ≡ check_of s t (length xs)) (accepted : checked ≡ Ok tt) where
   pub found_answer : (p : Standing) → p ≡ standing_of s t.support (searched s t) → answer_held p.error p.tried p.held ≡ search_of s t (length xs)
   unfolding search_of answer_after standing_of
   found_answer p e =

@@ -136,4 +136,4 @@ found_exactly s t whole =
     }
 
 pub outcomes_coincide : SearchesCoincide
-outcomes_coincide size t values codes order cuts counts scratch a b after other p q = (p.answers ∙ sym q.answers, p.words ∙ sym q.words)
+outcomes_coincide s t scratch a b after other p q = (p.answers ∙ sym q.answers, p.words ∙ sym q.words)

@@ -1,8 +1,7 @@
 -- For a signer. What holds of the search of an accepted sheet, as statements; `proofs/` proves each.
-use Rattle.std.specs.Prelude.{◌≡◌, ℕ, zero, suc, ◌+◌, ◌-◌, ◌*◌, ◌≤◌, ◌<◌, List, Float, leb}
+use Rattle.std.specs.Prelude.{◌≡◌, ℕ, zero, suc, ◌+◌, ◌-◌, ◌*◌, ◌≤◌, ◌<◌, List, leb}
 use Rattle.std.proofs.Math.Option.{Option, none}
 use Rattle.basics.specs.Choice.{pick, Hit}
-use Rattle.sheet.specs.declared.Size.{Size}
 use Rattle.sheet.specs.declared.Terms.{Terms}
 use Rattle.sheet.specs.Sheet.{Sheet, count_of}
 use Rattle.tree.specs.declared.Tree.{Tree}
@@ -59,6 +58,5 @@ FoundExactly = (s : Sheet) (t : Terms) → Whole s → let p : Progress = search
 -- "show that two outcomes fitting the contract coincide"
 abbrev pub SearchesCoincide : Type 0
 SearchesCoincide =
-    (size : Size) (t : Terms) (values : List Float) (codes order cuts counts scratch : List ℕ) (a b : Answer) (after other : List ℕ)
-    → SearchedOf size t values codes order cuts counts scratch a after → SearchedOf size t values codes order cuts counts scratch b other
-    → (a ≡ b) × (after ≡ other)
+    (s : Sheet) (t : Terms) (scratch : List ℕ) (a b : Answer) (after other : List ℕ)
+    → SearchedOf s t scratch a after → SearchedOf s t scratch b other → (a ≡ b) × (after ≡ other)

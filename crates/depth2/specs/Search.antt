@@ -1,14 +1,13 @@
 -- For a signer. The search of a whole sheet (document 01, "Search"): its columns in order, and what it answers. Definitions only.
-use Rattle.std.specs.Prelude.{ℕ, zero, suc, ◌+◌, ◌-◌, List, length, leb, ltb}
+use Rattle.std.specs.Prelude.{ℕ, zero, suc, ◌+◌, ◌-◌, List, length, leb, ltb, Ok, Err}
 use Rattle.std.proofs.Math.Option.{Option, none, some}
 use Rattle.basics.specs.Choice.{pick}
 use Rattle.sheet.specs.Sheet.{Sheet, before_cuts}
 use Rattle.sheet.specs.declared.Terms.{Terms}
-use Rattle.sheet.specs.declared.Checked.{Checked}
-use Rattle.sheet.specs.declared.Checked.TheVariants.{Accepted, Refused}
-use Rattle.sheet.specs.Check.{check_of, scratch_after}
+use Rattle.sheet.specs.Reasons.{turned_back_for}
+use Rattle.sheet.specs.Check.{Verdict, check_of, scratch_after}
 use Rattle.tree.specs.declared.Answer.{Answer}
-use Rattle.tree.specs.declared.Answer.TheVariants.{TurnedBack, Kept, Found}
+use Rattle.tree.specs.declared.Answer.TheVariants.{Kept, Found}
 use Rattle.cuts.specs.declared.Run.{Run}
 use Rattle.cuts.specs.Feasible.{feasible_of}
 use Rattle.column_search.specs.Search.{State, column_run, tries_of}
@@ -50,9 +49,9 @@ unfoldable pub answer_holding : Sheet → Terms → Progress → Option (ℕ × 
 answer_holding s t p none = Kept p.error p.tried
 answer_holding s t p (some cut) = Found (tree_at s t.support cut.0 cut.1 p.error) p.tried
 
-unfoldable pub answer_after : Sheet → Terms → Checked → Answer
-answer_after s t (Refused number place) = TurnedBack number place
-answer_after s t Accepted = let p : Progress = searched s t in answer_holding s t p p.best
+unfoldable pub answer_after : Sheet → Terms → Verdict → Answer
+answer_after s t (Err refusal) = turned_back_for refusal
+answer_after s t (Ok accepted) = let p : Progress = searched s t in answer_holding s t p p.best
 
 -- "A search answers Turned back (number, place), Kept (error, tried) or Found (error, column, threshold, two sides, tried)."
 unfoldable pub search_of : Sheet → Terms → ℕ → Answer
