@@ -4,8 +4,10 @@ use Prim.Native.Nat.{ℕ, zero, suc, ◌+◌, ◌-◌, ◌/◌, ◌%◌, ◌≤�
 use native.Mathlib.Omega.{arith}
 use native.Mathlib.Nat.{add-zero}
 use mathlib.Core.List.{List, [], ◌∷◌, ◌++◌}
-use lib.ListN.{length, set, length-append}
-use lib.Seq.{sets, set_comm}
+use lib.ListN.{length, set, take, drop, length-append}
+use lib.Seq.{sets, sets-eq, set_comm, take-length}
+use borrow.Rule.Slice.PartMut.{put_mid}
+use Rattle.std.proofs.lemmas.Slice.{put_mid-paste}
 use Rattle.digits.specs.Digits.{digit_of, digits_of}
 use Rattle.digits.specs.Put.{Put}
 
@@ -27,10 +29,6 @@ joined {l} {m} {r} {at} {next} {last} {xs} {ys} p q =
           ∙ ap (λ (i : ℕ). sets (sets l at xs) i ys) p.past
           ∙ sym (sets_append l at xs ys);
     }
-
--- one byte
-pub one : (l : List ℕ) (at a : ℕ) → Put l at (a ∷ []) (at + 1) (set l at a)
-one l at a = record { past = omega arith; stored = refl }
 
 -- ---- from the last byte back
 
@@ -58,3 +56,11 @@ last_digit l at base left rest h =
   where
     one_less : (n : ℕ) → 0 < n → n ≡ suc (n - 1)
     one_less n h = omega arith
+
+-- ---- a text over the place that is as long
+
+pub copied : (l copy text : List ℕ) (at count : ℕ) → copy ≡ text → count ≡ length text → at + length text ≤ length l → put_mid at count l copy ≡ sets l at text
+copied l copy text at count same long room =
+    put_mid-paste at count l copy text (length text) same (sym long) refl
+    ∙ ap (λ (k : List ℕ). take at l ++ k ++ drop (at + length text) l) (take-length text)
+    ∙ sym (sets-eq text l at room)

@@ -1,11 +1,11 @@
 // Bytes and numbers written into lent text, and a double's bits.
 #![tactic(auto)]
 
-ghost use Rattle.std.specs.Prelude.{◌≡◌, ◌+◌, ◌≤◌, ◌<◌, length};
+ghost use Rattle.std.specs.Prelude.{◌≡◌, ◌≤◌, ◌<◌, length};
 ghost use Rattle.std.specs.Float.{binary64};
 ghost use Rattle.std.specs.Float.Ieee.{to_bits};
 ghost use Rattle.digits.specs.Digits.{digit_of, digits_of, digits_in, decimal_of, hex_of, most_places, hex_places};
-ghost use Rattle.digits.specs.Put.{Put, PutWithin, PutExactly};
+ghost use Rattle.digits.specs.Put.{HasRoom, SameMemory, Wrote, WroteWithin, WroteExactly};
 
 // The bases of the two ways that a number is written.
 const DECIMAL: u64 = 10;
@@ -32,59 +32,61 @@ fn digit(d: u64) -> u8
 fn places(n: u64) -> usize
     ensures { result ≡ digits_in n }
 {
-    let mut count: usize = 1;
-    let mut rest = n / DECIMAL;
-    while rest > 0 {
-        rest /= DECIMAL;
-        count += 1;
+    1 + n.checked_ilog10().unwrap_or(0) as usize
+}
+
+// Text in lent memory, which is written from its front: the next byte comes to place `at`.
+#[derive(Drop)]
+pub struct Text<'a> {
+    pub out: &'a mut [u8],
+    pub at: usize,
+}
+
+impl Text<'_> {
+    pub fn put_bytes(&mut self, bytes: &[u8])
+        requires { HasRoom self.old (length bytes.now) }
+        ensures same_memory { SameMemory self.old self.new }
+        ensures text { Wrote self.old bytes.now self.new }
+    {
+        let end = self.at + bytes.len();
+        self.out[self.at..end].copy_from_slice(bytes);
+        self.at = end;
     }
-    count
-}
 
-pub fn put_bytes(out: &mut [u8], at: usize, text: &[u8]) -> usize
-    requires { at + length text.now ≤ length out.old }
-    ensures { Put out.old at text.now result out.new }
-{
-    let mut done: usize = 0;
-    while done < text.len() {
-        out[at + done] = text[done];
-        done += 1;
+    // From the last digit to the first.
+    fn put_digits(&mut self, base: u64, count: usize, n: u64)
+        requires { (2 ≤ base) × (base ≤ 16) × HasRoom self.old count }
+        ensures same_memory { SameMemory self.old self.new }
+        ensures text { Wrote self.old (digits_of base count n) self.new }
+    {
+        let mut rest = n;
+        for place in (0..count).rev() {
+            self.out[self.at + place] = digit(rest % base);
+            rest /= base;
+        }
+        self.at += count;
     }
-    at + done
-}
 
-// From the last digit to the first.
-fn put_digits(out: &mut [u8], at: usize, base: u64, count: usize, n: u64) -> usize
-    requires { (2 ≤ base) × (base ≤ 16) × (at + count ≤ length out.old) }
-    ensures { Put out.old at (digits_of base count n) result out.new }
-{
-    let mut left = count;
-    let mut rest = n;
-    while left > 0 {
-        left -= 1;
-        out[at + left] = digit(rest % base);
-        rest /= base;
+    pub fn put_decimal(&mut self, n: u64)
+        requires { HasRoom self.old most_places }
+        ensures same_memory { SameMemory self.old self.new }
+        ensures text { WroteWithin self.old (decimal_of n) most_places self.new }
+    {
+        self.put_digits(DECIMAL, places(n), n);
     }
-    at + count
-}
 
-pub fn put_decimal(out: &mut [u8], at: usize, n: u64) -> usize
-    requires { at + most_places ≤ length out.old }
-    ensures { PutWithin out.old at (decimal_of n) most_places result out.new }
-{
-    put_digits(out, at, DECIMAL, places(n), n)
-}
-
-pub fn put_hex(out: &mut [u8], at: usize, bits: u64) -> usize
-    requires { at + hex_places ≤ length out.old }
-    ensures { PutExactly out.old at (hex_of bits) hex_places result out.new }
-{
-    put_digits(out, at, HEX, HEX_PLACES, bits)
+    pub fn put_hex(&mut self, bits: u64)
+        requires { HasRoom self.old hex_places }
+        ensures same_memory { SameMemory self.old self.new }
+        ensures text { WroteExactly self.old (hex_of bits) hex_places self.new }
+    {
+        self.put_digits(HEX, HEX_PLACES, bits);
+    }
 }
 
 // A double's bits.
 pub fn bits_of(x: f64) -> u64
     ensures { result ≡ to_bits binary64 x }
 {
-    if x == x { f64::to_bits(x) } else { NAN_BITS }
+    if x.is_nan() { NAN_BITS } else { x.to_bits() }
 }

@@ -1,5 +1,5 @@
 -- Every listing has room in the longest: each word is as long as it is, and a number has twenty digits at most. Assumes nothing.
-use mathlib.Core.Path.{◌≡◌, sym, ap, ◌∙◌, subst}
+use mathlib.Core.Path.{◌≡◌, sym, ap, ◌∙◌}
 use Prim.Native.Nat.{ℕ, ◌+◌, ◌≤◌, ◌<◌}
 use native.Mathlib.Nat.{zero-add}
 use native.Mathlib.Omega.{arith}
@@ -86,18 +86,18 @@ room_for_every (Found tree tried) =
 
 -- ---- the listing stored from place 0 on
 
-pub listed : (answer shown : Answer) (out after : List ℕ) (r : ℕ) → longest ≤ length out → answer ≡ shown → Put out 0 (listing_of shown) r after
+pub listed : (answer : Answer) (out kept after : List ℕ) (r : ℕ) → longest ≤ length out → Put out 0 (listing_of answer) r kept → after ≡ kept
     → ListedIn answer out r after
 unfolding written_of out_of
-listed answer shown out after r room e put =
+listed answer out kept after r room put e =
     let text = listing_of answer in
-    let p : Put out 0 text r after = subst (λ (s : Answer). Put out 0 (listing_of s) r after) (sym e) put in
     let h : length text ≤ longest = room_for_every answer in
     let t = le→leb longest (length out) room in
     record {
-      says = p.past ∙ zero-add (length text) ∙ sym (pick_true (leb longest (length out)) (length text) 0 t);
+      says = put.past ∙ zero-add (length text) ∙ sym (pick_true (leb longest (length out)) (length text) 0 t);
       holds =
-          p.stored
+          e
+          ∙ put.stored
           ∙ sets-eq text out 0 (omega arith)
           ∙ ap (λ (k : ℕ). text ++ drop k out) (zero-add (length text))
           ∙ sym (pick_true (leb longest (length out)) (text ++ drop (length text) out) out t);

@@ -1,14 +1,10 @@
-use mathlib.Core.Path.{sym}
-use native.Mathlib.Omega.{arith}
-use Rattle.digits.proofs.Decimal.{divided, counted}
+-- `digits::places` meets its contract: the logarithm counts the digits past the first.
+use mathlib.Core.Path.{ap, ◌∙◌}
+use Prim.Native.Nat.{ℕ, ◌+◌}
+use Rattle.digits.proofs.Decimal.{places_by}
 use Rattle.digits.proofs.places.Goals as goal
-
-pub loop-rest-preserved : goal.loop-rest-preserved
-loop-rest-preserved c =
-    let l = c.loop-rest in
-    divided c.args.n l.count l.rest l.invariant (omega arith) (omega arith)
 
 pub returns : goal.returns
 returns c =
-    let l = c.loop-rest in
-    sym (counted c.args.n l.count l.rest l.invariant (omega arith))
+    let log = c.checked_ilog10.ensures in
+    ap (λ (k : ℕ). 1 + k) c.unwrap_or.ensures ∙ places_by c.args.n c.checked_ilog10.result log.none log.power_le log.next_power_gt log.bound

@@ -3,6 +3,6 @@ use Rattle.listing.specs.Listing.{field}
 use Rattle.digits.proofs.Puts.{joined}
 use Rattle.listing.proofs.put_field.Goals as goal
 
-pub returns-clause-text : goal.returns-clause-text
+pub returns-clause-stored : goal.returns-clause-stored
 unfolding field
-returns-clause-text c = joined c.put_bytes-after.ensures c.put_decimal.ensures.0
+returns-clause-stored c = joined c.put_bytes.ensures.text c.put_decimal.ensures.text.0

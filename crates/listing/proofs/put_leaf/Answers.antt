@@ -2,6 +2,6 @@
 use Rattle.listing.specs.Listing.{leaf_of}
 use Rattle.listing.proofs.put_leaf.Goals as goal
 
-pub returns-clause-text : goal.returns-clause-text
+pub returns-clause-stored : goal.returns-clause-stored
 unfolding leaf_of
-returns-clause-text c = c.put_line.ensures.text
+returns-clause-stored c = rw c.from.ensures at c.put_line.ensures.stored

@@ -3,6 +3,6 @@ use Rattle.listing.specs.Listing.{line_of}
 use Rattle.digits.proofs.Puts.{joined}
 use Rattle.listing.proofs.put_line.Goals as goal
 
-pub returns-clause-text : goal.returns-clause-text
+pub returns-clause-stored : goal.returns-clause-stored
 unfolding line_of
-returns-clause-text c = joined (joined c.put_field-first.ensures.text c.put_field-second.ensures.text) c.put_bytes.ensures
+returns-clause-stored c = joined (joined c.put_field.ensures.stored c.put_field-2.ensures.stored) c.put_bytes.ensures.text

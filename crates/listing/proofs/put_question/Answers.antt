@@ -3,6 +3,6 @@ use Rattle.listing.specs.Listing.{question_of}
 use Rattle.digits.proofs.Puts.{joined}
 use Rattle.listing.proofs.put_question.Goals as goal
 
-pub returns-clause-text : goal.returns-clause-text
+pub returns-clause-stored : goal.returns-clause-stored
 unfolding question_of
-returns-clause-text c = joined c.put_field-named.ensures.text c.put_threshold.ensures.text
+returns-clause-stored c = joined c.put_field.ensures.stored c.put_threshold.ensures.stored

@@ -3,7 +3,7 @@ use Rattle.listing.specs.Listing.{rule_lines}
 use Rattle.digits.proofs.Puts.{joined}
 use Rattle.listing.proofs.put_rule.Goals as goal
 
-pub returns : goal.returns
+pub returns-clause-stored : goal.returns-clause-stored
 unfolding rule_lines
-returns c =
-    joined (joined c.put_found-found.ensures.text c.put_side-halved.ensures.text) c.put_side.ensures.text
+returns-clause-stored c =
+    joined (joined c.put_found.ensures.stored c.put_side.ensures.stored) c.put_side-2.ensures.stored

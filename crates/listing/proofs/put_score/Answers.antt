@@ -3,6 +3,6 @@ use Rattle.listing.specs.Listing.{score_of}
 use Rattle.digits.proofs.Puts.{joined}
 use Rattle.listing.proofs.put_score.Goals as goal
 
-pub returns-clause-text : goal.returns-clause-text
+pub returns-clause-stored : goal.returns-clause-stored
 unfolding score_of
-returns-clause-text c = joined c.put_field-after.ensures.text c.put_field.ensures.text
+returns-clause-stored c = joined c.put_field.ensures.stored (rw c.from.ensures at c.put_field-2.ensures.stored)

@@ -3,7 +3,7 @@ use Rattle.listing.specs.Listing.{split_of}
 use Rattle.digits.proofs.Puts.{joined}
 use Rattle.listing.proofs.put_split.Goals as goal
 
-pub returns-clause-text : goal.returns-clause-text
+pub returns-clause-stored : goal.returns-clause-stored
 unfolding split_of
-returns-clause-text c =
-    joined (joined (joined c.put_question-parted.ensures.text c.put_score-scored.ensures.text) c.put_score-both.ensures.text) c.put_bytes.ensures
+returns-clause-stored c =
+    joined (joined (joined c.put_question.ensures.stored c.put_score.ensures.stored) c.put_score-2.ensures.stored) c.put_bytes.ensures.text
