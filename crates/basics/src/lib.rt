@@ -2,6 +2,8 @@
 // `_word` is of u32.
 #![tactic(auto)]
 
+pub mod reading;
+
 ghost use Rattle.std.specs.Prelude.{◌≡◌, ◌-◌, min, max};
 ghost use Rattle.basics.specs.Choice.{bit};
 ghost use Rattle.basics.specs.Wide.{Widened};
