@@ -1,19 +1,11 @@
--- A value is finite exactly if it lies between the two infinities; a NaN lies nowhere. Assumes nothing.
-use mathlib.Core.Path.{◌≡◌, refl, sym}
-use mathlib.Core.Bool.{true, false}
-use lib.Ieee.{Float, nan, inf, fin, lt}
+-- std's test of a finite value is the document's. Assumes nothing.
+use mathlib.Core.Path.{◌≡◌, refl}
+use lib.Ieee.{Float, nan, inf, fin}
 use lib.Ieee.Scale.{finite}
+use Rattle.std.specs.Float.{float_is_finite}
 
-pub below_endless : (x : Float) → lt (inf true) x ≡ true → lt x (inf false) ≡ finite x
-unfolding lt
-below_endless nan e = refl
-below_endless (inf true) e = sym e
-below_endless (inf false) e = refl
-below_endless (fin s m d) e = refl
-
-pub not_above : (x : Float) → lt (inf true) x ≡ false → false ≡ finite x
-unfolding lt
-not_above nan e = refl
-not_above (inf true) e = refl
-not_above (inf false) e = refl
-not_above (fin s m d) e = sym e
+pub finite_same : (x : Float) → float_is_finite x ≡ finite x
+unfolding float_is_finite
+finite_same nan = refl
+finite_same (inf s) = refl
+finite_same (fin s m e) = refl

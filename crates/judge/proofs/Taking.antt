@@ -7,6 +7,7 @@ use mathlib.Core.Bool.{Bool, true, false, not, ◌&&◌}
 use lib.ListN.{length}
 use lib.Dec.{T, leb, ltb, eqb, nleb→lt}
 use lib.Ieee.Scale.{finite}
+use Rattle.std.specs.Prelude.{Result, Ok, Err}
 use Rattle.basics.specs.Choice.{pick}
 use Rattle.basics.specs.Walk.{walk}
 use Rattle.basics.proofs.Choice.{pick_false, nleb}
@@ -15,36 +16,40 @@ use Rattle.sheet.specs.declared.Terms.{Terms}
 use Rattle.sheet.specs.declared.Checked.{Checked}
 use Rattle.sheet.specs.declared.Checked.TheVariants.{Accepted, Refused}
 use Rattle.sheet.specs.Check.{cells_of, size_holds, lengths_hold, scratch_holds, terms_hold, bad_value, bad_label, reason, content_of, check_of}
+use Rattle.sheet.specs.Reasons.{refused}
+use Rattle.sheet.specs.declared.refusals.Reason.{Reason}
+use Rattle.sheet.specs.declared.refusals.Reason.TheVariants.{SizeOutside, LengthWrong, ValueOutside, LabelHigh, ColumnHigh, LeafHigh, ThresholdEndless}
+use Rattle.sheet.specs.declared.refusals.Refusal.{Refusal}
 use Rattle.sheet.specs.Reasons.{size_outside, length_wrong, scratch_short, term_above, value_outside, label_high}
 use Rattle.tree.specs.declared.Side.{Side}
 use Rattle.tree.specs.declared.Tree.{Tree}
 use Rattle.judge.specs.declared.judge_rows.Judgement.{Judgement}
 use Rattle.judge.specs.Mistakes.{judgement_of}
-use Rattle.judge.specs.declared.Verdict.{Verdict}
-use Rattle.judge.specs.declared.Verdict.TheVariants.{TurnedBack, Judged}
-use Rattle.judge.specs.Reasons.{column_high, leaf_high, threshold_endless, places}
+use Rattle.judge.specs.Reasons.{places}
 use Rattle.judge.specs.Judge.{judged_holds, bad_leaf, bad_threshold, back, back_first, bad_at, bad_columns, bad_leaves, bad_thresholds, tree_checked, judge_of, bad_column}
 
 -- ---- one reason after another
 
 -- no reason held, so it went on
-went_on : (number place : ℕ) (bad : Bool) (rest : Verdict) (j : Judgement) → back number place bad rest ≡ Judged j → T (not bad) × (rest ≡ Judged j)
+went_on : (reason : Reason) (place : ℕ) (bad : Bool) (rest : Result Judgement Refusal) (j : Judgement) → back reason place bad rest ≡ Ok j
+    → T (not bad) × (rest ≡ Ok j)
 unfolding back pick
-went_on number place true rest j e = let z : ◌≡◌ {A = ℕ} 0 1 = cc in absurd (omega arith)
-went_on number place false rest j e = (tt, e)
+went_on reason place true rest j e = absurd cc
+went_on reason place false rest j e = (tt, e)
 
-goes_on : (number place : ℕ) (bad : Bool) (rest : Verdict) → T (not bad) → back number place bad rest ≡ rest
+goes_on : (reason : Reason) (place : ℕ) (bad : Bool) (rest : Result Judgement Refusal) → T (not bad) → back reason place bad rest ≡ rest
 unfolding back
-goes_on number place bad rest h = pick_false bad (TurnedBack number place) rest h
+goes_on reason place bad rest h = pick_false bad (Err (refused reason place)) rest h
 
-goes_on_first : (number places : ℕ) (bad : ℕ → Bool) (rest : Verdict) → T (not (ltb (walk bad places 0) places)) → back_first number places bad rest ≡ rest
+goes_on_first : (reason : Reason) (places : ℕ) (bad : ℕ → Bool) (rest : Result Judgement Refusal) → T (not (ltb (walk bad places 0) places))
+    → back_first reason places bad rest ≡ rest
 unfolding back_first
-goes_on_first number places bad rest h = goes_on number (walk bad places 0) (ltb (walk bad places 0) places) rest h
+goes_on_first reason places bad rest h = goes_on reason (walk bad places 0) (ltb (walk bad places 0) places) rest h
 
-went_on_first : (number places : ℕ) (bad : ℕ → Bool) (rest : Verdict) (j : Judgement) → back_first number places bad rest ≡ Judged j
-    → T (not (ltb (walk bad places 0) places)) × (rest ≡ Judged j)
+went_on_first : (reason : Reason) (places : ℕ) (bad : ℕ → Bool) (rest : Result Judgement Refusal) (j : Judgement)
+    → back_first reason places bad rest ≡ Ok j → T (not (ltb (walk bad places 0) places)) × (rest ≡ Ok j)
 unfolding back_first
-went_on_first number places bad rest j e = went_on number (walk bad places 0) (ltb (walk bad places 0) places) rest j e
+went_on_first reason places bad rest j e = went_on reason (walk bad places 0) (ltb (walk bad places 0) places) rest j e
 
 -- ---- the tests at the three places
 
@@ -89,19 +94,19 @@ pub not_not : (b : Bool) → T b → T (not (not b))
 not_not true h = tt
 not_not false h = h
 
-same_judged : (i j : Judgement) → Judged i ≡ Judged j → i ≡ j
+same_judged : (i j : Judgement) → ◌≡◌ {A = Result Judgement Refusal} (Ok i) (Ok j) → i ≡ j
 same_judged i j e = cc
 
-pub accepts : (s : Sheet) (t : Tree) (j : Judgement) → judge_of s t ≡ Judged j → Accepts s t j
+pub accepts : (s : Sheet) (t : Tree) (j : Judgement) → judge_of s t ≡ Ok j → Accepts s t j
 unfolding judge_of tree_checked
 accepts s t j e =
-    let e₁ = went_on size_outside 0 (not (size_holds s.rows s.columns s.labels)) _ j e in
-    let e₂ = went_on length_wrong 0 (not (judged_holds s)) _ j e₁.1 in
-    let e₅ = went_on_first value_outside (cells_of s) (bad_value s.values) _ j e₂.1 in
-    let e₆ = went_on_first label_high s.rows (bad_label s.codes s.labels) _ j e₅.1 in
-    let e₁₀ = went_on_first column_high places (bad_columns s t) _ j e₆.1 in
-    let e₁₁ = went_on_first leaf_high places (bad_leaves s t) _ j e₁₀.1 in
-    let e₁₂ = went_on_first threshold_endless places (bad_thresholds t) _ j e₁₁.1 in
+    let e₁ = went_on SizeOutside 0 (not (size_holds s.rows s.columns s.labels)) _ j e in
+    let e₂ = went_on LengthWrong 0 (not (judged_holds s)) _ j e₁.1 in
+    let e₅ = went_on_first ValueOutside (cells_of s) (bad_value s.values) _ j e₂.1 in
+    let e₆ = went_on_first LabelHigh s.rows (bad_label s.codes s.labels) _ j e₅.1 in
+    let e₁₀ = went_on_first ColumnHigh places (bad_columns s t) _ j e₆.1 in
+    let e₁₁ = went_on_first LeafHigh places (bad_leaves s t) _ j e₁₀.1 in
+    let e₁₂ = went_on_first ThresholdEndless places (bad_thresholds t) _ j e₁₁.1 in
     let columns = passed_each (leb s.columns t.question.column) (bad_column s.columns t.left) (bad_column s.columns t.right) e₁₀.0 in
     let leaves = passed_each false (bad_leaf s.labels t.left) (bad_leaf s.labels t.right) e₁₁.0 in
     let thresholds = passed_each (not (finite t.question.threshold)) (bad_threshold t.left) (bad_threshold t.right) e₁₂.0 in
@@ -115,15 +120,15 @@ accepts s t j e =
 
 -- and one of which all this is known is judged
 pub taken : (s : Sheet) (t : Tree) → t.question.column < s.columns → T (finite t.question.threshold) → Taken s t.left → Taken s t.right
-    → tree_checked s t ≡ Judged (judgement_of s t)
+    → tree_checked s t ≡ Ok (judgement_of s t)
 unfolding tree_checked
 taken s t h f l r =
-    goes_on_first column_high places (bad_columns s t) _
+    goes_on_first ColumnHigh places (bad_columns s t) _
     (each_passed (leb s.columns t.question.column) (bad_column s.columns t.left) (bad_column s.columns t.right)
     (nleb s.columns t.question.column h) l.column r.column)
-    ∙ goes_on_first leaf_high places (bad_leaves s t) _
+    ∙ goes_on_first LeafHigh places (bad_leaves s t) _
     (each_passed false (bad_leaf s.labels t.left) (bad_leaf s.labels t.right) tt l.leaf r.leaf)
-    ∙ goes_on_first threshold_endless places (bad_thresholds t) _
+    ∙ goes_on_first ThresholdEndless places (bad_thresholds t) _
     (each_passed (not (finite t.question.threshold)) (bad_threshold t.left) (bad_threshold t.right)
     (not_not (finite t.question.threshold) f) l.threshold r.threshold)
 
@@ -158,8 +163,8 @@ same_sheet s t words e tree =
     let d = whole_on term_above (terms_hold t) _ c.1 in
     let f = reason_on value_outside (cells_of s) (bad_value s.values) _ d.1 in
     let g = reason_on label_high s.rows (bad_label s.codes s.labels) _ f.1 in
-    goes_on size_outside 0 (not (size_holds s.rows s.columns s.labels)) _ (not_not (size_holds s.rows s.columns s.labels) a.0)
-    ∙ goes_on length_wrong 0 (not (judged_holds s)) _
+    goes_on SizeOutside 0 (not (size_holds s.rows s.columns s.labels)) _ (not_not (size_holds s.rows s.columns s.labels) a.0)
+    ∙ goes_on LengthWrong 0 (not (judged_holds s)) _
     (fewer (eqb (length s.values) (cells_of s)) (eqb (length s.codes) s.rows) (eqb (length s.order) (cells_of s)) (eqb (length s.cuts) (cells_of s)) (eqb (length s.counts) s.columns) b.0)
-    ∙ goes_on_first value_outside (cells_of s) (bad_value s.values) _ f.0
-    ∙ goes_on_first label_high s.rows (bad_label s.codes s.labels) (tree_checked s tree) g.0
+    ∙ goes_on_first ValueOutside (cells_of s) (bad_value s.values) _ f.0
+    ∙ goes_on_first LabelHigh s.rows (bad_label s.codes s.labels) (tree_checked s tree) g.0

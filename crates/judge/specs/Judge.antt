@@ -1,18 +1,20 @@
 -- For a signer. Document 01, "Reasons a call turns back": "the judge 1, 2, 5, 6, 10, 11, 12", the lowest number first. Definitions only.
-use Rattle.std.specs.Prelude.{ℕ, Bool, false, not, ◌&&◌, ◌||◌, [], ◌∷◌, length, get_or, leb, ltb, eqb}
+use Rattle.std.specs.Prelude.{ℕ, Bool, false, not, ◌&&◌, ◌||◌, [], ◌∷◌, length, get_or, leb, ltb, eqb, Result, Ok, Err}
 use Rattle.std.specs.Float.Ieee.Scale.{finite}
 use Rattle.basics.specs.Choice.{pick}
 use Rattle.basics.specs.Walk.{walk}
 use Rattle.sheet.specs.Sheet.{Sheet}
 use Rattle.sheet.specs.Check.{cells_of, size_holds, bad_value, bad_label}
-use Rattle.sheet.specs.Reasons.{size_outside, length_wrong, value_outside, label_high}
+use Rattle.sheet.specs.Reasons.{refused}
+use Rattle.sheet.specs.declared.refusals.Reason.{Reason}
+use Rattle.sheet.specs.declared.refusals.Reason.TheVariants.{SizeOutside, LengthWrong, ValueOutside, LabelHigh, ColumnHigh, LeafHigh, ThresholdEndless}
+use Rattle.sheet.specs.declared.refusals.Refusal.{Refusal}
 use Rattle.tree.specs.declared.Side.{Side}
 use Rattle.tree.specs.declared.Side.TheVariants.{Leaf, Split}
 use Rattle.tree.specs.declared.Tree.{Tree}
 use Rattle.judge.specs.Mistakes.{judgement_of}
-use Rattle.judge.specs.declared.Verdict.{Verdict}
-use Rattle.judge.specs.declared.Verdict.TheVariants.{TurnedBack, Judged}
-use Rattle.judge.specs.Reasons.{column_high, leaf_high, threshold_endless, places}
+use Rattle.judge.specs.declared.judge_rows.Judgement.{Judgement}
+use Rattle.judge.specs.Reasons.{places}
 
 -- 2: "an input slice of the wrong length": the judge is handed values and labels only
 unfoldable pub judged_holds : Sheet → Bool
@@ -33,13 +35,13 @@ unfoldable pub bad_threshold : Side → Bool
 bad_threshold (Leaf leaf) = false
 bad_threshold (Split question left right) = not (finite question.threshold)
 
--- turned back with this number at this place, if the condition holds; else the rest
-unfoldable pub back : ℕ → ℕ → Bool → Verdict → Verdict
-back number place bad rest = pick bad (TurnedBack number place) rest
+-- turned back for this reason at this place, if the condition holds; else the rest
+unfoldable pub back : Reason → ℕ → Bool → Result Judgement Refusal → Result Judgement Refusal
+back reason place bad rest = pick bad (Err (refused reason place)) rest
 
--- turned back with this number at the first of the places that fails; else the rest
-unfoldable pub back_first : ℕ → ℕ → (ℕ → Bool) → Verdict → Verdict
-back_first number places bad rest = let p : ℕ = walk bad places 0 in back number p (ltb p places) rest
+-- turned back for this reason at the first of the places that fails; else the rest
+unfoldable pub back_first : Reason → ℕ → (ℕ → Bool) → Result Judgement Refusal → Result Judgement Refusal
+back_first reason places bad rest = let p : ℕ = walk bad places 0 in back reason p (ltb p places) rest
 
 -- what fails at the places root, left and right
 unfoldable pub bad_at : Bool → Bool → Bool → ℕ → Bool
@@ -55,17 +57,17 @@ bad_leaves s t = bad_at false (bad_leaf s.labels t.left) (bad_leaf s.labels t.ri
 abbrev pub bad_thresholds : Tree → ℕ → Bool
 bad_thresholds t = bad_at (not (finite t.question.threshold)) (bad_threshold t.left) (bad_threshold t.right)
 
-unfoldable pub tree_checked : Sheet → Tree → Verdict
+unfoldable pub tree_checked : Sheet → Tree → Result Judgement Refusal
 tree_checked s t =
-    back_first column_high places (bad_columns s t)
-    (back_first leaf_high places (bad_leaves s t)
-    (back_first threshold_endless places (bad_thresholds t)
-    (Judged (judgement_of s t))))
+    back_first ColumnHigh places (bad_columns s t)
+    (back_first LeafHigh places (bad_leaves s t)
+    (back_first ThresholdEndless places (bad_thresholds t)
+    (Ok (judgement_of s t))))
 
-unfoldable pub judge_of : Sheet → Tree → Verdict
+unfoldable pub judge_of : Sheet → Tree → Result Judgement Refusal
 judge_of s t =
-    back size_outside 0 (not (size_holds s.rows s.columns s.labels))
-    (back length_wrong 0 (not (judged_holds s))
-    (back_first value_outside (cells_of s) (bad_value s.values)
-    (back_first label_high s.rows (bad_label s.codes s.labels)
+    back SizeOutside 0 (not (size_holds s.rows s.columns s.labels))
+    (back LengthWrong 0 (not (judged_holds s))
+    (back_first ValueOutside (cells_of s) (bad_value s.values)
+    (back_first LabelHigh s.rows (bad_label s.codes s.labels)
     (tree_checked s t))))

@@ -1,15 +1,16 @@
 -- For a signer. What holds of the judge, as statements; `proofs/` proves each. The conditions of the table stand here once more, with no
 -- search in them.
-use Rattle.std.specs.Prelude.{◌≡◌, ◌⊎◌, ℕ, ◌+◌, ◌*◌, ◌≤◌, List, [], ◌∷◌, length, get_or, T}
+use Rattle.std.specs.Prelude.{◌≡◌, ◌⊎◌, ℕ, ◌+◌, ◌*◌, ◌≤◌, List, [], ◌∷◌, length, get_or, T, Ok}
+use Rattle.std.proofs.Math.Option.{some}
 use Rattle.std.specs.Float.Ieee.Scale.{finite}
 use Rattle.sheet.specs.Sheet.{Sheet}
 use Rattle.sheet.specs.Laws.{First, SizeOutside, ValueOutside, LabelHigh}
+use Rattle.sheet.specs.Reasons.{reason_of}
 use Rattle.sheet.specs.Rows.{rows_at}
 use Rattle.tree.specs.declared.Side.{Side}
 use Rattle.tree.specs.declared.Side.TheVariants.{Leaf, Split}
 use Rattle.tree.specs.declared.Tree.{Tree}
 use Rattle.judge.specs.declared.judge_rows.Judgement.{Judgement}
-use Rattle.judge.specs.declared.Verdict.TheVariants.{TurnedBack, Judged}
 use Rattle.judge.specs.Mistakes.{root_leftward, root_rightward, judgement_of}
 use Rattle.judge.specs.Judge.{judge_of}
 
@@ -81,14 +82,15 @@ JudgeCondition s t n p = get_or (judge_conditions s t p) n ⊥
 abbrev pub JudgeGivenExactly : Type 0
 JudgeGivenExactly =
     (s : Sheet) (t : Tree) (n p : ℕ)
-    → (judge_of s t ≡ TurnedBack n p → First (JudgeCondition s t) n p) × (First (JudgeCondition s t) n p → judge_of s t ≡ TurnedBack n p)
+    → (reason_of (judge_of s t) ≡ some (n, p) → First (JudgeCondition s t) n p)
+    × (First (JudgeCondition s t) n p → reason_of (judge_of s t) ≡ some (n, p))
 
 -- and a sheet and a tree of which none holds are judged, and no others
 abbrev pub JudgedExactly : Type 0
 JudgedExactly =
     (s : Sheet) (t : Tree) (j : Judgement)
-    → (judge_of s t ≡ Judged j → (j ≡ judgement_of s t) × ((n p : ℕ) → JudgeCondition s t n p → ⊥))
-    × (((n p : ℕ) → JudgeCondition s t n p → ⊥) → judge_of s t ≡ Judged (judgement_of s t))
+    → (judge_of s t ≡ Ok j → (j ≡ judgement_of s t) × ((n p : ℕ) → JudgeCondition s t n p → ⊥))
+    × (((n p : ℕ) → JudgeCondition s t n p → ⊥) → judge_of s t ≡ Ok (judgement_of s t))
 
 -- ---- every row goes to one of the two root sides, whatever the tree
 

@@ -1,8 +1,8 @@
 -- For proofs only. One row after another through the tree: what has been seen of a side after the first rows.
-use Rattle.std.specs.Prelude.{ℕ, ◌+◌, ◌≤◌, ◌<◌, ◌*◌, ◌≡◌, Bool, not, ◌&&◌, List, length, T, eqb, Float}
+use Rattle.std.specs.Prelude.{ℕ, ◌+◌, ◌≤◌, ◌<◌, ◌*◌, ◌≡◌, Bool, not, ◌&&◌, length, T, eqb}
 use Rattle.basics.specs.Choice.{pick, bit}
 use Rattle.basics.specs.Lists.{tally, table}
-use Rattle.sheet.specs.declared.Size.{Size}
+use Rattle.sheet.specs.declared.lent.Measured.{Measured}
 use Rattle.sheet.specs.Limits.{most_rows}
 use Rattle.sheet.specs.Sheet.{Sheet, label_of}
 use Rattle.sheet.specs.Rows.{sent_left, leftward, rightward}
@@ -70,10 +70,10 @@ wrong_seen (Split question left right) seen = AtSplit seen.left seen.right
 
 -- ---- what the functions may count on, once the sheet's reasons and reason 10 were ruled out
 
-pub record JudgeShaped (size : Size) (values : List Float) (codes : List ℕ) : Type 0 where
-  pub rows_most : size.rows ≤ most_rows
-  pub values_all : length values ≡ size.columns * size.rows
-  pub codes_all : length codes ≡ size.rows
+pub record JudgeShaped (measured : Measured) : Type 0 where
+  pub rows_most : measured.size.rows ≤ most_rows
+  pub values_all : length measured.values.now ≡ measured.size.columns * measured.size.rows
+  pub codes_all : length measured.codes.now ≡ measured.size.rows
 
 -- no more came to a leaf than n rows
 pub record Few (reached : Reached) (n : ℕ) : Type 0 where
