@@ -5,7 +5,8 @@ use Prim.Native.Nat.{ℕ, ◌+◌, ◌<◌}
 use mathlib.Core.Bool.{Bool}
 use lib.Dec.{leb, nleb→lt}
 use lib.Ieee.Scale.{finite}
-use Rattle.basics.proofs.Choice.{nor_left, nor_right, nor_both, nleb}
+use Rattle.std.specs.Prelude.{Ok}
+use Rattle.basics.proofs.Choice.{nor_left, nor_right, nor_both, nleb, not_not}
 use Rattle.threshold.proofs.Keys.{finite_comparable}
 use Rattle.threshold.specs.Laws.{Measured}
 use Rattle.threshold.proofs.Law.{within_finite}
@@ -21,9 +22,8 @@ use Rattle.side_laws.proofs.Root.{root_parts}
 use Rattle.judge.specs.declared.judge_rows.Reached.{Reached}
 use Rattle.judge.specs.declared.judge_rows.Wrong.TheVariants.{AtLeaf, AtSplit}
 use Rattle.judge.specs.Mistakes.{reached_at, side_wrong, wrong_sum, root_leftward, root_rightward, judgement_of}
-use Rattle.judge.specs.declared.Verdict.TheVariants.{Judged}
 use Rattle.judge.specs.Judge.{bad_leaf, bad_threshold, tree_checked, bad_column}
-use Rattle.judge.proofs.Taking.{Taken, twice_not, not_not}
+use Rattle.judge.proofs.Taking.{Taken, twice_not}
 use Rattle.judge.proofs.Taking as taking
 use Rattle.certificate.specs.Certificate.{SideDouble, own_errors}
 
@@ -75,7 +75,7 @@ told_wrong s support mine (Leaf leaf) h = ap (λ (n : ℕ). AtLeaf (reach n)) (s
 told_wrong s support mine (Split question left right) h = ap₂ (λ (m n : ℕ). AtSplit (reach m) (reach n)) (sym h.left_told.error_is) (sym h.right_told.error_is)
 
 pub taken : (s : Sheet) (t : Tree) (support : ℕ) → t.question.column < s.columns → Measured t.question.threshold
-    → Told s support (root_leftward s t) t.left → Told s support (root_rightward s t) t.right → tree_checked s t ≡ Judged (judgement_of s t)
+    → Told s support (root_leftward s t) t.left → Told s support (root_rightward s t) t.right → tree_checked s t ≡ Ok (judgement_of s t)
 taken s t support h m l r =
     taking.taken s t h (within_finite t.question.threshold m.limited) (told_taken s support (root_leftward s t) t.left l)
     (told_taken s support (root_rightward s t) t.right r)

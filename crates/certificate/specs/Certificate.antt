@@ -19,7 +19,6 @@ use Rattle.judge.specs.declared.judge_rows.Reached.{Reached}
 use Rattle.judge.specs.declared.judge_rows.Wrong.{Wrong}
 use Rattle.judge.specs.declared.judge_rows.Wrong.TheVariants.{AtLeaf, AtSplit}
 use Rattle.judge.specs.declared.judge_rows.Judgement.{Judgement}
-use Rattle.judge.specs.declared.Verdict.TheVariants.{Judged}
 use Rattle.judge.specs.Mistakes.{root_leftward, root_rightward}
 use Rattle.judge.specs.Judge.{judge_of}
 use Rattle.depth2.specs.Search.{search_of}
@@ -40,7 +39,7 @@ pub record TreeDouble (tree : Tree) : Type 0 where
 -- Its questions ask columns of the sheet at finite thresholds and its labels are the sheet's, or the judge would turn it back.
 pub record AnyTree (s : Sheet) (tree : Tree) (j : Judgement) : Type 0 where
   pub double : TreeDouble tree
-  pub judged : judge_of s tree ≡ Judged j
+  pub judged : judge_of s tree ≡ Ok j
   pub left_rows : 1 ≤ rows_at s (root_leftward s tree)
   pub right_rows : 1 ≤ rows_at s (root_rightward s tree)
 
@@ -70,7 +69,7 @@ own_errors (Split question left right) = AtSplit (own_error left) (own_error rig
 -- the judge takes the tree, and counts just the mistakes that it says it makes, leaf by leaf
 pub record AsItSays (s : Sheet) (tree : Tree) : Type 0 where
   pub judgement : Judgement
-  pub judged : judge_of s tree ≡ Judged judgement
+  pub judged : judge_of s tree ≡ Ok judgement
   pub mistakes : judgement.mistakes ≡ tree.error
   pub left : judgement.left ≡ own_errors tree.left
   pub right : judgement.right ≡ own_errors tree.right

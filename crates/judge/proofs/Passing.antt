@@ -4,18 +4,16 @@ use mathlib.Core.Path.{◌≡◌, refl, sym, ap, ap₂, ◌∙◌, subst}
 use Prim.Native.Nat.{ℕ, ◌+◌, ◌*◌, ◌≤◌, ◌<◌, min}
 use native.Mathlib.Omega.{arith}
 use native.Mathlib.Numerals.{add-one}
-use mathlib.Core.Bool.{Bool, true, false, not, ◌&&◌}
+use mathlib.Core.Bool.{Bool, not, ◌&&◌}
 use mathlib.Core.List.{[], ◌∷◌}
-use lib.Dec.{T, eqb, nleb→lt}
+use lib.Dec.{T, nleb→lt}
 use Rattle.basics.specs.Choice.{bit}
 use Rattle.basics.specs.Lists.{tally, table}
-use Rattle.basics.proofs.Choice.{by_test, pick_true, pick_false, bit_true, bit_false, bit_and_true, bit_and_false, and_both, nand_left, nand_right, not_not}
+use Rattle.basics.proofs.Choice.{by_test, bit_true, bit_false, bit_and_true, bit_and_false, and_both, nand_left, nand_right, not_not}
 use Rattle.basics.proofs.Lists.{table_next, tally_append, tally_le, length_table}
 use Rattle.sheet.specs.Limits.{most_rows}
 use Rattle.sheet.specs.Sheet.{Sheet, label_of}
 use Rattle.sheet.specs.Rows.{sent_left, leftward, rightward, rows_at, wrong_at}
-use Rattle.sheet.proofs.Index.{column_in}
-use Rattle.sheet.proofs.Search.{truth, untruth}
 use Rattle.tree.specs.declared.Question.{Question}
 use Rattle.tree.specs.declared.Leaf as leaf
 use Rattle.tree.specs.declared.Side.{Side}
@@ -27,13 +25,10 @@ use Rattle.judge.specs.declared.judge_rows.Seen.{Seen}
 use Rattle.judge.specs.declared.judge_rows.Passed.{Passed}
 use Rattle.judge.specs.declared.judge_rows.Judgement.{Judgement}
 use Rattle.judge.specs.Mistakes.{root_leftward, root_rightward, reached_at, side_wrong, wrong_sum, support_of, judgement_of}
-use Rattle.judge.specs.Passing.{first_rows, mistaken, nothing, reached_of, seen_of, passed_of, reached_by, reached_left, reached_right, next_of, wrong_seen, Few, SeenWithin}
+use Rattle.judge.specs.Passing.{first_rows, mistaken, nothing, reached_of, seen_of, passed_of, reached_by, next_of, wrong_seen, Few, SeenWithin}
 use Rattle.judge.specs.Judge.{bad_column}
 
--- ---- a value's index
-
-pub cell : (rows columns column row entries : ℕ) → entries ≡ columns * rows → column < columns → row < rows → column * rows + row < entries
-cell rows columns column row entries e h g = omega (arith, column_in rows columns column h)
+-- ---- a side's question asks a column of the sheet
 
 pub asked : (columns : ℕ) (side : Side) (question : Question) (left right : leaf.Leaf) → side ≡ Split question left right
     → T (not (bad_column columns side)) → question.column < columns
@@ -46,41 +41,11 @@ asked columns side question left right e h =
 abbrev reach : ℕ → Reached
 reach n = record { wrong = n }
 
-pub one_more : (code : ℕ) (leaf : leaf.Leaf) (reached : Reached) (m : ℕ) → m ≡ bit (not (eqb code leaf.label))
-    → reach (reached.wrong + m) ≡ reached_by code leaf reached
-unfolding reached_by
-one_more code leaf reached m e = ap (λ k. reach (reached.wrong + k)) e
-
 abbrev mk : ℕ → Reached → Reached → Seen
 mk a b d = record { rows = a; left = b; right = d }
 
 same_seen : {a a' : ℕ} {b b' d d' : Reached} → a ≡ a' → b ≡ b' → d ≡ d' → mk a b d ≡ mk a' b' d'
 same_seen e f g = cc
-
-module _ (s : Sheet) (side : Side) (row : ℕ) (seen : Seen) (code : ℕ) (same : code ≡ label_of s row) (reached : Reached) where
-  here : (leaf : leaf.Leaf) (before : Reached) → reached ≡ reached_by code leaf before → reached ≡ reached_by (label_of s row) leaf before
-  here leaf before f = f ∙ ap (λ k. reached_by k leaf before) same
-
-  pub next_leaf : (leaf : leaf.Leaf) → side ≡ Leaf leaf → reached ≡ reached_by code leaf seen.left
-      → mk (seen.rows + 1) reached seen.right ≡ next_of s side row seen
-  unfolding next_of
-  next_leaf leaf e f =
-      ap (λ x. mk (seen.rows + 1) x seen.right) (here leaf seen.left f) ∙ sym (ap (λ x. next_of s x row seen) e)
-
-  module _ (question : Question) (left right : leaf.Leaf) (e : side ≡ Split question left right) where
-    pub next_left : sent_left s question row ≡ true → reached ≡ reached_by code left seen.left
-        → mk (seen.rows + 1) reached seen.right ≡ next_of s side row seen
-    unfolding next_of
-    next_left g f =
-        ap (λ x. mk (seen.rows + 1) x seen.right) (here left seen.left f)
-        ∙ sym (ap (λ x. next_of s x row seen) e ∙ pick_true (sent_left s question row) (reached_left s left row seen) (reached_right s right row seen) (truth g))
-
-    pub next_right : sent_left s question row ≡ false → reached ≡ reached_by code right seen.right
-        → mk (seen.rows + 1) seen.left reached ≡ next_of s side row seen
-    unfolding next_of
-    next_right g f =
-        ap (λ x. mk (seen.rows + 1) seen.left x) (here right seen.right f)
-        ∙ sym (ap (λ x. next_of s x row seen) e ∙ pick_false (sent_left s question row) (reached_left s left row seen) (reached_right s right row seen) (untruth g))
 
 -- ---- one row more of the first rows
 
@@ -118,9 +83,6 @@ module _ (s : Sheet) (mine : ℕ → Bool) (leaf : leaf.Leaf) (n : ℕ) where
 reach_none : (s : Sheet) (mine : ℕ → Bool) (leaf : leaf.Leaf) → nothing ≡ reached_of s mine leaf 0
 unfolding reached_of
 reach_none s mine leaf = refl
-
-pub few_most : {reached : Reached} {n rows : ℕ} → Few reached n → n < rows → rows ≤ most_rows → Few reached most_rows
-few_most f h g = record { wrong_in = omega (arith, f.wrong_in) }
 
 -- ---- at a side
 

@@ -1,11 +1,11 @@
 -- What is known once a reason is ruled out. Assumes nothing.
-use mathlib.Core.Path.{◌≡◌, refl, sym, ◌∙◌, subst}
+use mathlib.Core.Path.{◌≡◌, sym, ◌∙◌}
 use Prim.Native.Nat.{ℕ, ◌≤◌}
 use native.Mathlib.Omega.{arith}
 use mathlib.Core.Bool.{Bool, true}
 use lib.ListN.{length}
 use lib.Dec.{T, leb, eqb, eqb→eq, nleb→lt}
-use Rattle.std.specs.Prelude.{Option, Some, None}
+use Rattle.std.specs.Prelude.{Option, None}
 use Rattle.basics.specs.Walk.{walk, place_among}
 use Rattle.basics.proofs.Choice.{and_left, and_right}
 use Rattle.basics.proofs.Walk.{place_none}

@@ -10,7 +10,7 @@ use lib.Ieee.Scale.{finite}
 use Rattle.std.specs.Prelude.{Result, Ok, Err}
 use Rattle.basics.specs.Choice.{pick}
 use Rattle.basics.specs.Walk.{walk}
-use Rattle.basics.proofs.Choice.{pick_false, nleb}
+use Rattle.basics.proofs.Choice.{pick_false, nleb, not_not}
 use Rattle.sheet.specs.Sheet.{Sheet}
 use Rattle.sheet.specs.declared.Terms.{Terms}
 use Rattle.sheet.specs.declared.Checked.{Checked}
@@ -89,10 +89,6 @@ pub record Accepts (s : Sheet) (t : Tree) (j : Judgement) : Type 0 where
 pub twice_not : (b : Bool) → T (not (not b)) → T b
 twice_not true h = tt
 twice_not false h = h
-
-pub not_not : (b : Bool) → T b → T (not (not b))
-not_not true h = tt
-not_not false h = h
 
 same_judged : (i j : Judgement) → ◌≡◌ {A = Result Judgement Refusal} (Ok i) (Ok j) → i ≡ j
 same_judged i j e = cc

@@ -1,7 +1,6 @@
 -- No question asks a column that is too high once reason 10 is ruled out.
 use Rattle.judge.proofs.Reasons.{asking}
 use Rattle.judge.proofs.judge_tree.Goals as goal
-use mathlib.Core.Path.{sym, ap, ◌∙◌}
 use Rattle.sheet.specs.Lent.{measured_in}
 
 pub judge_rows-requires : goal.judge_rows-requires

@@ -24,7 +24,7 @@ next-left-requires c =
     let l = c.loop-row in (
       c.requires.0,
       c.requires.1.left,
-      c.loop-row-test.true,
+      omega (arith, c.loop-row-test.true),
       subst (λ x. SeenWithin x l.row) (sym l.invariant.0) (seen_within s (root_leftward s t) t.left l.row),
     )
 
@@ -35,7 +35,7 @@ next-right-requires c =
     let l = c.loop-row in (
       c.requires.0,
       c.requires.1.right,
-      c.loop-row-test.true,
+      omega (arith, c.loop-row-test.true),
       subst (λ x. SeenWithin x l.row) (sym l.invariant.1) (seen_within s (root_rightward s t) t.right l.row),
     )
 
