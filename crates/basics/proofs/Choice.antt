@@ -1,11 +1,12 @@
 -- Tests by cases: what holds in both cases holds of the choice. Assumes nothing.
-use mathlib.Core.Path.{◌≡◌, refl, subst}
+use mathlib.Core.Path.{◌≡◌, refl, sym, ◌∙◌, subst}
 use Prim.Native.Nat.{ℕ, ◌+◌, ◌≤◌, ◌<◌}
 use native.Mathlib.Omega.{arith}
 use native.Mathlib.Decide.{dec_le}
 use native.Mathlib.Nat.{lt_of_not-le}
 use mathlib.Core.Bool.{Bool, true, false, not, ◌&&◌, ◌||◌}
 use mathlib.Core.Option.{Option, none, some}
+use mir.Val.{bool_byte}
 use lib.Dec.{T, T_not, not_T, leb, ltb, eqb, leb→le, nleb→lt, ltb→lt, nltb→le, eqb→eq, eqb_refl}
 use Rattle.basics.specs.Choice.{pick, bit, Given}
 
@@ -31,6 +32,13 @@ pub pick_false {ℓ} : {X : Type ℓ} (b : Bool) (x y : X) → T (not b) → pic
 unfolding pick
 pick_false true x y t = absurd t
 pick_false false x y t = refl
+
+-- what a branch chose is what the test picks
+pub picked_then {ℓ} : {X : Type ℓ} (b : Bool) (x y v : X) → b ≡ true → v ≡ x → v ≡ pick b x y
+picked_then b x y v t e = e ∙ sym (pick_true b x y (subst T (sym t) tt))
+
+pub picked_else {ℓ} : {X : Type ℓ} (b : Bool) (x y v : X) → b ≡ false → v ≡ y → v ≡ pick b x y
+picked_else b x y v t e = e ∙ sym (pick_false b x y (subst (λ (c : Bool). T (not c)) (sym t) tt))
 
 -- ---- a proof, by a test
 
@@ -128,6 +136,11 @@ bit_true false t = absurd t
 pub bit_false : (b : Bool) → T (not b) → bit b ≡ 0
 bit_false true t = absurd t
 bit_false false t = refl
+
+-- a test as the library makes a number of it
+pub byte_bit : (b : Bool) → bool_byte b ≡ bit b
+byte_bit true = refl
+byte_bit false = refl
 
 pub bit_le : (b : Bool) → bit b ≤ 1
 bit_le true = omega arith
