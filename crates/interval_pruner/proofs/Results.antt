@@ -7,8 +7,7 @@ use lib.ListN.{length, get_or, set, length-set}
 use lib.Seq.{get_or-set_same, get_or-set_other}
 use lib.Dec.{eqb}
 use Rattle.basics.proofs.Choice.{by_test, order}
-use Rattle.interval_pruner.specs.declared.Tried.{Tried}
-use Rattle.interval_pruner.specs.declared.Tried.TheVariants.{Nothing, Cut}
+use Rattle.std.specs.Prelude.{Option, Some, None}
 use Rattle.interval_pruner.specs.declared.Zeros.{Zeros}
 use Rattle.interval_pruner.specs.Column.{recorded}
 use Rattle.interval_pruner.specs.Pruner.{Held, highest_zero, lowest_zero, zeros_after, recorded_after}
@@ -51,15 +50,15 @@ pub min_either : (P : ℕ → Type 0) (a b : ℕ) → P a → P b → P (min a b
 min_either P a b h g = order a b (λ l. subst P (omega arith) h) (λ l. subst P (omega arith) g)
 
 module _ (P : ℕ → Type 0) (k : ℕ) (h : P k) where
-  highest_held : (t : Tried) → Held P t → Held P (highest_zero k t)
+  highest_held : (t : Option ℕ) → Held P t → Held P (highest_zero k t)
   unfolding highest_zero
-  highest_held Nothing p = h
-  highest_held (Cut z) p = max_either P z k p h
+  highest_held None p = h
+  highest_held (Some z) p = max_either P z k p h
 
-  lowest_held : (t : Tried) → Held P t → Held P (lowest_zero k t)
+  lowest_held : (t : Option ℕ) → Held P t → Held P (lowest_zero k t)
   unfolding lowest_zero
-  lowest_held Nothing p = h
-  lowest_held (Cut z) p = min_either P z k p h
+  lowest_held None p = h
+  lowest_held (Some z) p = min_either P z k p h
 
   -- what holds of the marked cuts and of the tried one holds of those marked afterwards
   pub left_held : (z : Zeros) (left right : ℕ) → Held P z.left → Held P (zeros_after z k left right).left

@@ -1,10 +1,9 @@
 -- For a signer. What the calls of the pruner promise: of the record of tries, its answer and the lent table; of steps 1, 2 and 5, their
 -- answers on the lists that a search hands them. On other lists they end, and their answer is not said.
-use Rattle.std.specs.Prelude.{◌≡◌, ℕ, Bool, List, []}
+use Rattle.std.specs.Prelude.{◌≡◌, ℕ, Bool, List, [], Option}
 use Rattle.cuts.specs.Lookups.{Ascending}
 use Rattle.interval_pruner.specs.declared.Bound.{Bound}
 use Rattle.interval_pruner.specs.declared.Parts.{Parts}
-use Rattle.interval_pruner.specs.declared.Shrunk.{Shrunk}
 use Rattle.interval_pruner.specs.declared.Zeros.{Zeros}
 use Rattle.interval_pruner.specs.Column.{recorded_column}
 use Rattle.interval_pruner.specs.Pruner.{zeros_after, recorded_after, hopeless, shrunk_of, parts_of, PartsListed}
@@ -17,7 +16,7 @@ abbrev pub DroppedOf : List ℕ → Bound → ℕ → ℕ → Bool → Bool → 
 DroppedOf table bound gap best small r = (places : List ℕ) → r ≡ hopeless (recorded_column places table gap small) best bound
 
 -- step 2, on an ascending list
-abbrev pub ShrunkTo : List ℕ → List ℕ → Zeros → Bound → ℕ → ℕ → Bool → Shrunk → Type 0
+abbrev pub ShrunkTo : List ℕ → List ℕ → Zeros → Bound → ℕ → ℕ → Bool → Option Bound → Type 0
 ShrunkTo places table zeros bound gap best small r = Ascending places → r ≡ shrunk_of (recorded_column places table gap small) zeros best bound
 
 -- step 5, for a cut and a mark of an ascending list; it looks at no recorded error

@@ -1,13 +1,9 @@
 -- For a signer. Steps 1, 2 and 5 of document 01's search. `b` is the document's B, the smaller of the current error and the upper bound.
 -- Definitions only.
-use Rattle.std.specs.Prelude.{ℕ, suc, ◌+◌, ◌-◌, ◌*◌, ◌<◌, min, max, Bool, ◌&&◌, List, length, set, leb, ltb, eqb}
+use Rattle.std.specs.Prelude.{ℕ, suc, ◌+◌, ◌-◌, ◌*◌, ◌<◌, min, max, Bool, ◌&&◌, List, length, set, leb, ltb, eqb, Option, Some, None}
 use Rattle.basics.specs.Choice.{pick}
 use Rattle.cuts.specs.Lookups.{Ascending, at_least, above, first_from, sought_from}
-use Rattle.interval_pruner.specs.declared.Tried.{Tried}
-use Rattle.interval_pruner.specs.declared.Tried.TheVariants.{Nothing, Cut}
 use Rattle.interval_pruner.specs.declared.Bound.{Bound}
-use Rattle.interval_pruner.specs.declared.Shrunk.{Shrunk}
-use Rattle.interval_pruner.specs.declared.Shrunk.TheVariants.{Dropped, To}
 use Rattle.interval_pruner.specs.declared.Zeros.{Zeros}
 use Rattle.interval_pruner.specs.declared.Parts.{Parts}
 use Rattle.interval_pruner.specs.Column.{Column, place_in, left_error, right_error, error_of}
@@ -15,18 +11,18 @@ use Rattle.interval_pruner.specs.Column.{Column, place_in, left_error, right_err
 -- ---- what was tried
 
 -- if there is one, it is such
-abbrev pub Held : (ℕ → Type 0) → Tried → Type 0
-Held P Nothing = Unit {0}
-Held P (Cut k) = P k
+abbrev pub Held : (ℕ → Type 0) → Option ℕ → Type 0
+Held P None = Unit {0}
+Held P (Some k) = P k
 
 -- "the highest tried cut with left error 0", "the lowest with right error 0": after one more cut that is such
-unfoldable pub highest_zero : ℕ → Tried → Tried
-highest_zero k Nothing = Cut k
-highest_zero k (Cut z) = Cut (max z k)
+unfoldable pub highest_zero : ℕ → Option ℕ → Option ℕ
+highest_zero k None = Some k
+highest_zero k (Some z) = Some (max z k)
 
-unfoldable pub lowest_zero : ℕ → Tried → Tried
-lowest_zero k Nothing = Cut k
-lowest_zero k (Cut z) = Cut (min z k)
+unfoldable pub lowest_zero : ℕ → Option ℕ → Option ℕ
+lowest_zero k None = Some k
+lowest_zero k (Some z) = Some (min z k)
 
 -- after a try of cut k with these two errors
 unfoldable pub zeros_after : Zeros → ℕ → ℕ → ℕ → Zeros
@@ -40,9 +36,9 @@ recorded_after table k left right = set (set table (2 * k) left) (2 * k + 1) rig
 -- ---- step 1
 
 -- "left error at its remembered left cut, or 0", and so of the right one
-unfoldable pub held_error : (ℕ → ℕ) → Tried → ℕ
-held_error error Nothing = 0
-held_error error (Cut k) = error k
+unfoldable pub held_error : (ℕ → ℕ) → Option ℕ → ℕ
+held_error error None = 0
+held_error error (Some k) = error k
 
 -- "With support ≤ 1, drop it if (..) + (..) + gap ≥ B."
 unfoldable pub hopeless : Column → ℕ → Bound → Bool
@@ -51,42 +47,42 @@ hopeless c b i = c.small && leb b (held_error (left_error c) i.left + held_error
 -- ---- step 2
 
 -- "past the highest tried cut with left error 0"
-unfoldable pub past : Tried → ℕ → ℕ
-past Nothing first = first
-past (Cut z) first = max first (suc z)
+unfoldable pub past : Option ℕ → ℕ → ℕ
+past None first = first
+past (Some z) first = max first (suc z)
 
 -- "short of the lowest with right error 0 (never below number 0)"
-unfoldable pub short : Tried → ℕ → ℕ
-short Nothing last = last
-short (Cut z) last = min last (z - 1)
+unfoldable pub short : Option ℕ → ℕ → ℕ
+short None last = last
+short (Some z) last = min last (z - 1)
 
 -- "with s a remembered cut's error plus gap"
 abbrev pub sum_of : Column → ℕ → ℕ
 sum_of c k = error_of c k + c.gap
 
 -- "and s ≥ B: from the left one, start at the first cut whose place is at least its place + s − B + 1"
-unfoldable pub start_after : Column → ℕ → Tried → ℕ → ℕ
-start_after c b Nothing first = first
-start_after c b (Cut k) first =
+unfoldable pub start_after : Column → ℕ → Option ℕ → ℕ → ℕ
+start_after c b None first = first
+start_after c b (Some k) first =
     pick (leb b (sum_of c k)) (first_from (at_least c.places (place_in c k + (sum_of c k - b) + 1)) c.places first) first
 
 -- the interval from `first` to `last` with the cuts that i remembers; "An empty interval is dropped."
-unfoldable pub interval_within : Bound → ℕ → ℕ → Shrunk
-interval_within i first last = pick (leb first last) (To (record { first = first; last = last; left = i.left; right = i.right })) Dropped
+unfoldable pub interval_within : Bound → ℕ → ℕ → Option Bound
+interval_within i first last = pick (leb first last) (Some (record { first = first; last = last; left = i.left; right = i.right })) None
 
 -- "drop the interval if x is below its first cut's place, else end at the first cut placed above x, if that lies inside"
-unfoldable pub end_above : Column → Bound → ℕ → ℕ → ℕ → Shrunk
+unfoldable pub end_above : Column → Bound → ℕ → ℕ → ℕ → Option Bound
 end_above c i x first last =
-    pick (ltb x (place_in c first)) Dropped (interval_within i first (min last (first_from (above c.places x) c.places first)))
+    pick (ltb x (place_in c first)) None (interval_within i first (min last (first_from (above c.places x) c.places first)))
 
 -- "from the right one, let x be its place − (s − B + 1), not below 0"
-unfoldable pub end_before : Column → ℕ → Tried → Bound → ℕ → ℕ → Shrunk
-end_before c b Nothing i first last = interval_within i first last
-end_before c b (Cut k) i first last =
+unfoldable pub end_before : Column → ℕ → Option ℕ → Bound → ℕ → ℕ → Option Bound
+end_before c b None i first last = interval_within i first last
+end_before c b (Some k) i first last =
     pick (leb b (sum_of c k)) (end_above c i (place_in c k - (sum_of c k - b + 1)) first last) (interval_within i first last)
 
 -- "With support ≤ 1, shrink as `interval_shrinking`"; "No end moves outwards."
-unfoldable pub shrunk_of : Column → Zeros → ℕ → Bound → Shrunk
+unfoldable pub shrunk_of : Column → Zeros → ℕ → Bound → Option Bound
 shrunk_of c z b i =
     let first : ℕ = start_after c b i.left (past z.left i.first) in
     pick c.small (end_before c b i.right i first (short z.right i.last)) (interval_within i i.first i.last)

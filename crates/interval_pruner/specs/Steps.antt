@@ -1,15 +1,10 @@
--- For proofs only. What one function says of both zero marks, and one of both errors of a cut.
-use Rattle.std.specs.Prelude.{ℕ, Bool, true, false, List}
-use Rattle.interval_pruner.specs.declared.Tried.{Tried}
-use Rattle.interval_pruner.specs.Column.{recorded}
-use Rattle.interval_pruner.specs.Pruner.{highest_zero, lowest_zero}
+-- For proofs only. What one function says of both ends of an interval.
+use Rattle.std.specs.Prelude.{ℕ, ◌+◌, ◌-◌, Option, Some, None, leb}
+use Rattle.basics.specs.Choice.{pick}
+use Rattle.interval_pruner.specs.Column.{Column, place_in}
+use Rattle.interval_pruner.specs.Pruner.{sum_of}
 
--- the highest one upwards, the lowest one downwards
-abbrev pub farthest : Bool → ℕ → Tried → Tried
-farthest true = highest_zero
-farthest false = lowest_zero
-
--- the right error of a recorded cut, else its left one
-abbrev pub error_on : Bool → List ℕ → ℕ → ℕ
-error_on true table k = (recorded table k).1
-error_on false table k = (recorded table k).0
+-- a remembered cut's place, and how far from it a better cut stands at least: its error plus gap less B, and one; none if that is less than B
+unfoldable pub kept_off : Column → ℕ → Option ℕ → Option (ℕ × ℕ)
+kept_off c b None = None
+kept_off c b (Some k) = pick (leb b (sum_of c k)) (Some (place_in c k, sum_of c k - b + 1)) None

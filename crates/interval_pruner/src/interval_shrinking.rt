@@ -1,104 +1,88 @@
 // Step 2 of one column's search (interval_pruner.rs): what is left of an interval after what was tried beside it.
-ghost use Rattle.std.specs.Prelude.{◌≡◌, true, []};
+ghost use Rattle.std.specs.Prelude.{◌≡◌, ◌+◌, ◌*◌, ◌^◌, ◌<◌, ◌≤◌, true, [], IfSome};
 ghost use Rattle.cuts.specs.Lookups.{Ascending};
 ghost use Rattle.interval_pruner.specs.Column.{recorded_column};
 ghost use Rattle.interval_pruner.specs.Pruner.{past, short, interval_within, start_after, end_above, end_before};
+ghost use Rattle.interval_pruner.specs.Steps.{kept_off};
 ghost use Rattle.interval_pruner.specs.Promise.{ShrunkTo};
 
-use crate::{Bound, Shrunk, Tried, Zeros};
-use basics::wide_word;
+use crate::{Bound, Zeros};
 
 // The interval from `first` to `last` that remembers what `bound` does, if it is not empty.
-fn between(bound: Bound, first: usize, last: usize) -> Shrunk
+#[tactic(auto, using(crate::proofs::Shrinking::within_some, crate::proofs::Shrinking::within_none))]
+fn between(bound: Bound, first: usize, last: usize) -> Option<Bound>
     ensures { result ≡ interval_within bound first last }
 {
-    if first <= last {
-        let left = bound.left;
-        let right = bound.right;
-        return Shrunk::To(Bound {
-            first,
-            last,
-            left,
-            right,
-        });
-    }
-    Shrunk::Dropped
+    (first <= last).then_some(Bound {
+        first,
+        last,
+        ..bound
+    })
 }
 
 // Past the highest cut with left error 0, and short of the lowest with right error 0.
-fn between_zeros(zeros: Zeros, bound: Bound) -> Shrunk
+fn between_zeros(zeros: Zeros, bound: Bound) -> Option<Bound>
     ensures { result ≡ interval_within bound (past zeros.left bound.first) (short zeros.right bound.last) }
 {
-    let left = zeros.left;
-    let right = zeros.right;
-    let last = crate::short_of(right, bound.last);
-    match left {
-        Tried::Nothing => between(bound, bound.first, last),
-        Tried::Cut(z) => {
-            if z < last {
-                let first = basics::larger(bound.first, z + 1);
-                return between(bound, first, last);
-            }
-            Shrunk::Dropped
-        }
+    let last = crate::short_of(zeros.right, bound.last);
+    let Some(z) = zeros.left else {
+        return between(bound, bound.first, last);
+    };
+    if z < last {
+        return between(bound, bound.first.max(z + 1), last);
     }
+    None
+}
+
+// Where a remembered cut's error says that the cuts near it are no better: its place, and how far from it a better one stands at least.
+fn kept_off(
+    cuts: &[u16],
+    table: &[u32],
+    tried: Option<usize>,
+    gap: u32,
+    best: u32,
+) -> Option<(usize, usize)>
+    ensures value { result ≡ kept_off (recorded_column cuts.now table.now gap true) best tried }
+    ensures fits { IfSome result (λ r. (r.0 < 2 ^ 16) × (r.1 ≤ 3 * 2 ^ 32)) }
+{
+    let cut = tried?;
+    let over = crate::sum_at(table, cut, gap).checked_sub(best as usize)?;
+    Some((cuts::place_at(cuts, cut), over + 1))
 }
 
 // The cuts near the one remembered on the left are too near to be better.
-fn away_from_left(cuts: &[u16], table: &[u32], bound: Bound, gap: u32, best: u32) -> Shrunk
+fn away_from_left(cuts: &[u16], table: &[u32], bound: Bound, gap: u32, best: u32) -> Option<Bound>
     ensures { Ascending cuts.now →
         result ≡ interval_within bound (start_after (recorded_column cuts.now table.now gap true) best bound.left bound.first) bound.last }
 {
-    let first = bound.first;
-    let last = bound.last;
-    let left = bound.left;
-    match left {
-        Tried::Nothing => between(bound, first, last),
-        Tried::Cut(k) => {
-            let sum = crate::sum_at(table, k, gap);
-            let limit = wide_word(best);
-            if sum < limit {
-                return between(bound, first, last);
-            }
-            let nearest = cuts::place_at(cuts, k) + (sum - limit) + 1;
-            let start = cuts::lower_bound(cuts, first, last, nearest);
-            between(bound, start, last)
-        }
-    }
+    let Some((place, distance)) = kept_off(cuts, table, bound.left, gap, best) else {
+        return between(bound, bound.first, bound.last);
+    };
+    let start = cuts::lower_bound(cuts, bound.first, bound.last, place + distance);
+    between(bound, start, bound.last)
 }
 
 // The interval up to the first cut placed above `x`.
-fn up_to(cuts: &[u16], bound: Bound, x: usize) -> Shrunk
+fn up_to(cuts: &[u16], bound: Bound, x: usize) -> Option<Bound>
     ensures { Ascending cuts.now →
         result ≡ end_above (recorded_column cuts.now [] 0 true) bound x bound.first bound.last }
 {
-    let first = bound.first;
-    let last = bound.last;
-    if x < cuts::place_at(cuts, first) {
-        return Shrunk::Dropped;
+    if x < cuts::place_at(cuts, bound.first) {
+        return None;
     }
-    let end = cuts::upper_bound(cuts, first, last, x);
-    between(bound, first, basics::smaller(last, end))
+    let end = cuts::upper_bound(cuts, bound.first, bound.last, x);
+    between(bound, bound.first, bound.last.min(end))
 }
 
 // The cuts near the one remembered on the right are too near to be better.
-fn away_from_right(cuts: &[u16], table: &[u32], bound: Bound, gap: u32, best: u32) -> Shrunk
+fn away_from_right(cuts: &[u16], table: &[u32], bound: Bound, gap: u32, best: u32) -> Option<Bound>
     ensures { Ascending cuts.now →
         result ≡ end_before (recorded_column cuts.now table.now gap true) best bound.right bound bound.first bound.last }
 {
-    let right = bound.right;
-    match right {
-        Tried::Nothing => between(bound, bound.first, bound.last),
-        Tried::Cut(k) => {
-            let sum = crate::sum_at(table, k, gap);
-            let limit = wide_word(best);
-            if sum < limit {
-                return between(bound, bound.first, bound.last);
-            }
-            let x = basics::minus(cuts::place_at(cuts, k), sum - limit + 1);
-            up_to(cuts, bound, x)
-        }
-    }
+    let Some((place, distance)) = kept_off(cuts, table, bound.right, gap, best) else {
+        return between(bound, bound.first, bound.last);
+    };
+    up_to(cuts, bound, place.saturating_sub(distance))
 }
 
 // What is left of an interval after what has been tried beside it.
@@ -110,19 +94,13 @@ pub fn interval_shrinking(
     gap: u32,
     best: u32,
     small: bool,
-) -> Shrunk
+) -> Option<Bound>
     ensures { ShrunkTo cuts.now table.now zeros bound gap best small result }
 {
-    if small {
-        let cleared = between_zeros(zeros, bound);
-        let Shrunk::To(open) = cleared else {
-            return Shrunk::Dropped;
-        };
-        let started = away_from_left(cuts, table, open, gap, best);
-        let Shrunk::To(rest) = started else {
-            return Shrunk::Dropped;
-        };
-        return away_from_right(cuts, table, rest, gap, best);
+    if !small {
+        return between(bound, bound.first, bound.last);
     }
-    between(bound, bound.first, bound.last)
+    let open = between_zeros(zeros, bound)?;
+    let rest = away_from_left(cuts, table, open, gap, best)?;
+    away_from_right(cuts, table, rest, gap, best)
 }

@@ -1,47 +1,29 @@
-// The record of what was tried in one column (interval_pruner.rs), and the definitions of steps 1, 2 and 5 of its search, each step a crate above.
+// The record of what was tried in one column (interval_pruner.rs), and steps 1, 2 and 5 of its search, each in a module of its own.
 #![tactic(auto)]
 
 pub mod interval_shrinking;
 pub mod neighbourhood_pruning;
 pub mod subinterval_pruning;
 
-ghost use Rattle.std.specs.Prelude.{◌≡◌, ◌+◌, ◌*◌, ◌^◌, ◌<◌, min, max, get_or, set, eqb};
-ghost use Rattle.basics.specs.Choice.{pick};
+ghost use Rattle.std.specs.Prelude.{◌≡◌, ◌+◌, ◌*◌, ◌^◌, ◌<◌, get_or, set};
 ghost use Rattle.interval_pruner.specs.Column.{recorded};
 ghost use Rattle.interval_pruner.specs.Pruner.{recorded_after, short};
-ghost use Rattle.interval_pruner.specs.Steps.{farthest, error_on};
 ghost use Rattle.interval_pruner.specs.Promise.{ResultAdded};
-
-use basics::wide_word;
-
-// A tried cut, by its number, if there is one.
-#[derive(Clone, Copy)]
-pub enum Tried {
-    Nothing,
-    Cut(usize),
-}
 
 // An interval of cut numbers, both ends in it, and the tried cuts that it remembers on its left and on its right.
 #[derive(Clone, Copy)]
 pub struct Bound {
     pub first: usize,
     pub last: usize,
-    pub left: Tried,
-    pub right: Tried,
-}
-
-// What shrinking leaves of an interval.
-#[derive(Clone, Copy)]
-pub enum Shrunk {
-    Dropped,
-    To(Bound),
+    pub left: Option<usize>,
+    pub right: Option<usize>,
 }
 
 // The highest tried cut with left error 0, and the lowest with right error 0.
 #[derive(Clone, Copy)]
 pub struct Zeros {
-    pub left: Tried,
-    pub right: Tried,
+    pub left: Option<usize>,
+    pub right: Option<usize>,
 }
 
 // Where the part above a tried cut begins, and where the part below it ends.
@@ -68,46 +50,25 @@ fn store_both(table: &mut [u32], cut: usize, left: u32, right: u32)
     ensures { table.new ≡ recorded_after table.old cut left right }
 {
     if cut < table.len() {
-        let at = 2 * cut;
-        store(table, at, left);
-        store(table, at + 1, right);
+        store(table, 2 * cut, left);
+        store(table, 2 * cut + 1, right);
     }
-}
-
-fn farther(upwards: bool, a: usize, b: usize) -> usize
-    ensures { result ≡ pick upwards (max a b) (min a b) }
-{
-    if upwards {
-        basics::larger(a, b)
-    } else {
-        basics::smaller(a, b)
-    }
-}
-
-// The mark of the highest tried cut with error 0, or of the lowest, after one more.
-fn farthest_zero(upwards: bool, mark: Tried, cut: usize, error: u32) -> Tried
-    ensures { result ≡ pick (eqb error 0) (farthest upwards cut mark) mark }
-{
-    if error == 0 {
-        return match mark {
-            Tried::Nothing => Tried::Cut(cut),
-            Tried::Cut(z) => Tried::Cut(farther(upwards, z, cut)),
-        };
-    }
-    mark
 }
 
 // The errors of a tried cut are kept, and the zero marks moved.
+#[tactic(auto, unfolding(crate::specs::Pruner::zeros_after, crate::specs::Pruner::highest_zero, crate::specs::Pruner::lowest_zero, basics::specs::Choice::pick))]
 pub fn add_result(table: &mut [u32], zeros: Zeros, cut: usize, left: u32, right: u32) -> Zeros
     ensures { ResultAdded table.old zeros cut left right result table.new }
 {
     store_both(table, cut, left, right);
-    let low = zeros.left;
-    let high = zeros.right;
-    Zeros {
-        left: farthest_zero(true, low, cut, left),
-        right: farthest_zero(false, high, cut, right),
+    let mut after = zeros;
+    if left == 0 {
+        after.left = Some(zeros.left.map_or(cut, |z| z.max(cut)));
     }
+    if right == 0 {
+        after.right = Some(zeros.right.map_or(cut, |z| z.min(cut)));
+    }
+    after
 }
 
 // ---- what the steps ask of it
@@ -116,31 +77,29 @@ fn at(table: &[u32], i: usize) -> usize
     ensures value { result ≡ get_or table.now i 0 }
     ensures fits { result < 2 ^ 32 }
 {
-    if i < table.len() {
-        wide_word(table[i])
-    } else {
-        0
-    }
+    table.get(i).map_or(0, |error| *error as usize)
 }
 
-// A cut's right error, else its left one. A cut past the table is not asked for, as in `store_both`.
-pub(crate) fn error_at(table: &[u32], cut: usize, right: bool) -> usize
-    ensures value { result ≡ error_on right table.now cut }
-    ensures fits { result < 2 ^ 32 }
+// A tried cut's left error and its right one. A cut past the table is not asked for, as in `store_both`.
+#[tactic(auto, unfolding(crate::specs::Column::recorded))]
+pub(crate) fn errors_at(table: &[u32], cut: usize) -> (usize, usize)
+    ensures value { result ≡ recorded table.now cut }
+    ensures fits { (result.0 < 2 ^ 32) × (result.1 < 2 ^ 32) }
 {
     if cut < table.len() {
-        at(table, 2 * cut + basics::one_if(right))
+        (at(table, 2 * cut), at(table, 2 * cut + 1))
     } else {
-        0
+        (0, 0)
     }
 }
 
-pub(crate) fn short_of(zero: Tried, last: usize) -> usize
+#[tactic(auto, unfolding(crate::specs::Pruner::short))]
+pub(crate) fn short_of(zero: Option<usize>, last: usize) -> usize
     ensures { result ≡ short zero last }
 {
     match zero {
-        Tried::Nothing => last,
-        Tried::Cut(z) => basics::smaller(last, basics::minus(z, 1)),
+        None => last,
+        Some(z) => last.min(z.saturating_sub(1)),
     }
 }
 
@@ -149,5 +108,6 @@ pub(crate) fn sum_at(table: &[u32], cut: usize, gap: u32) -> usize
     ensures value { result ≡ (recorded table.now cut).0 + (recorded table.now cut).1 + gap }
     ensures fits { result < 3 * 2 ^ 32 }
 {
-    error_at(table, cut, false) + error_at(table, cut, true) + wide_word(gap)
+    let (left, right) = errors_at(table, cut);
+    left + right + gap as usize
 }

@@ -5,22 +5,22 @@ ghost use Rattle.interval_pruner.specs.Column.{recorded_column};
 ghost use Rattle.interval_pruner.specs.Pruner.{past, upper_from, lower_near, lower_to, Held, PartsListed};
 ghost use Rattle.interval_pruner.specs.Promise.{PartedAt};
 
-use crate::{Parts, Tried, Zeros};
-use basics::wide_word;
+use crate::{Parts, Zeros};
 
 // The number after a cut's; past a list of `count` cuts there is none to go to.
 fn after(count: usize, cut: usize) -> usize
     ensures { result ≡ min (suc cut) count }
 {
-    if cut < count { cut + 1 } else { count }
+    count.min(cut.saturating_add(1))
 }
 
-fn past_zero(count: usize, zero: Tried, first: usize) -> usize
+#[tactic(auto, unfolding(crate::specs::Pruner::past))]
+fn past_zero(count: usize, zero: Option<usize>, first: usize) -> usize
     ensures { Held (λ k. k < count) zero → result ≡ past zero first }
 {
     match zero {
-        Tried::Nothing => first,
-        Tried::Cut(z) => basics::larger(first, after(count, z)),
+        None => first,
+        Some(z) => first.max(after(count, z)),
     }
 }
 
@@ -33,13 +33,10 @@ fn upper_from(cuts: &[u16], zeros: Zeros, distance: usize, cut: usize, small: bo
 {
     let count = cuts.len();
     let next = after(count, cut);
-    let zero = zeros.left;
-    let from = past_zero(count, zero, next);
-    if small {
-        if 0 < distance {
-            let nearest = cuts::place_at(cuts, cut) + distance + 1;
-            return cuts::lower_bound(cuts, from, from, nearest);
-        }
+    let from = past_zero(count, zeros.left, next);
+    if small && 0 < distance {
+        let nearest = cuts::place_at(cuts, cut) + distance + 1;
+        return cuts::lower_bound(cuts, from, from, nearest);
     }
     next
 }
@@ -50,12 +47,11 @@ fn lower_near(cuts: &[u16], zeros: Zeros, distance: usize, cut: usize, first: us
     ensures { Ascending cuts.now →
         result ≡ lower_near (recorded_column cuts.now [] 0 true) zeros distance cut first }
 {
-    let x = basics::minus(cuts::place_at(cuts, cut), distance + 1);
+    let x = cuts::place_at(cuts, cut).saturating_sub(distance + 1);
     if x < cuts::place_at(cuts, first) {
-        return basics::minus(first, 1);
+        return first.saturating_sub(1);
     }
-    let zero = zeros.right;
-    let last = crate::short_of(zero, basics::minus(cut, 1));
+    let last = crate::short_of(zeros.right, cut.saturating_sub(1));
     cuts::upper_bound(cuts, first, last, x)
 }
 
@@ -72,7 +68,7 @@ fn lower_to(
     ensures { Ascending cuts.now →
         result ≡ lower_to (recorded_column cuts.now [] 0 small) zeros distance cut first }
 {
-    let before = basics::minus(cut, 1);
+    let before = cut.saturating_sub(1);
     if small {
         if 0 < distance {
             return lower_near(cuts, zeros, distance, cut, first);
@@ -94,7 +90,7 @@ pub fn neighbourhood_pruning(
 ) -> Parts
     ensures { PartedAt cuts.now zeros gap excess first cut small result }
 {
-    let distance = wide_word(excess) + wide_word(gap);
+    let distance = excess as usize + gap as usize;
     Parts {
         upper: upper_from(cuts, zeros, distance, cut, small),
         lower: lower_to(cuts, zeros, distance, cut, first, small),

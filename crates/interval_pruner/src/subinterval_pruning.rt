@@ -1,20 +1,21 @@
 // Step 1 of one column's search (interval_pruner.rs): whether an interval can be dropped for what is known of the cuts beside it.
 ghost use Rattle.std.specs.Prelude.{◌≡◌, ◌^◌, ◌<◌};
+ghost use Rattle.interval_pruner.specs.Column.{recorded};
 ghost use Rattle.interval_pruner.specs.Pruner.{held_error};
-ghost use Rattle.interval_pruner.specs.Steps.{error_on};
 ghost use Rattle.interval_pruner.specs.Promise.{DroppedOf};
 
-use crate::{Bound, Tried};
-use basics::wide_word;
+use crate::Bound;
 
-// The right error of a remembered cut, else its left one; 0 where none is remembered.
-fn held(table: &[u32], cut: Tried, right: bool) -> usize
-    ensures value { result ≡ held_error (error_on right table.now) cut }
-    ensures fits { result < 2 ^ 32 }
+// The left error of a remembered cut and its right one; 0 where none is remembered.
+#[tactic(auto, unfolding(crate::specs::Pruner::held_error))]
+fn held(table: &[u32], tried: Option<usize>) -> (usize, usize)
+    ensures left { result.0 ≡ held_error (λ k. (recorded table.now k).0) tried }
+    ensures right { result.1 ≡ held_error (λ k. (recorded table.now k).1) tried }
+    ensures fits { (result.0 < 2 ^ 32) × (result.1 < 2 ^ 32) }
 {
-    match cut {
-        Tried::Nothing => 0,
-        Tried::Cut(k) => crate::error_at(table, k, right),
+    match tried {
+        None => (0, 0),
+        Some(cut) => crate::errors_at(table, cut),
     }
 }
 
@@ -23,10 +24,8 @@ pub fn subinterval_pruning(table: &[u32], bound: Bound, gap: u32, best: u32, sma
     ensures { DroppedOf table.now bound gap best small result }
 {
     if small {
-        let left = bound.left;
-        let right = bound.right;
-        let sum = held(table, left, false) + held(table, right, true) + wide_word(gap);
-        return wide_word(best) <= sum;
+        let sum = held(table, bound.left).0 + held(table, bound.right).1 + gap as usize;
+        return best as usize <= sum;
     }
     false
 }

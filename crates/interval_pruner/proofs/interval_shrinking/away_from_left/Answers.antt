@@ -1,26 +1,11 @@
--- `interval_pruner::interval_shrinking::away_from_left` meets its contract: each way is one of the definition's.
-use mathlib.Core.Path.{◌∙◌}
-use native.Mathlib.Omega.{arith}
-use Rattle.interval_pruner.specs.Column.{left_error, right_error}
-use Rattle.interval_pruner.proofs.Shrinking.{start_nothing, start_under, start_over}
+-- `interval_pruner::interval_shrinking::away_from_left` meets its contract: it starts where the remembered cut lets it.
+use mathlib.Core.Path.{sym, ◌∙◌}
+use Rattle.interval_pruner.proofs.Shrinking.{start_kept, start_moved}
 use Rattle.interval_pruner.proofs.interval_shrinking.away_from_left.Goals as goal
 
-pub returns-then-sum-limit : goal.returns-then-sum-limit
-unfolding left_error right_error
-returns-then-sum-limit c =
-    λ up.
-    c.between-then-sum-limit.ensures ∙
-    start_under _ _ _ _ _ _ _ c.in-Cut.is (omega (arith, c.sum_at-sum.ensures.value, c.wide_word-limit.ensures.0, c.if-sum-limit.true))
+pub returns-in_default : goal.returns-in_default
+returns-in_default c = λ up. c.between.ensures ∙ start_kept _ _ _ _ _ _ (sym c.kept_off.ensures.value ∙ c.in_default.is)
 
-pub returns-in-Nothing : goal.returns-in-Nothing
-returns-in-Nothing c = λ up. c.between.ensures ∙ start_nothing _ _ _ _ _ _ c.in-Nothing.is
-
-pub returns-else-sum-limit : goal.returns-else-sum-limit
-unfolding left_error right_error
-returns-else-sum-limit c =
-    let s = c.sum_at-sum.ensures.value in
-    let w = c.wide_word-limit.ensures.0 in
-    λ up.
-    c.between-in-Cut.ensures ∙
-    start_over _ _ _ _ _ _ _ c.in-Cut.is (omega (arith, s, w, c.if-sum-limit.false)) _ _
-    (omega (arith, s, w, c.place_at.ensures.0)) (c.lower_bound-start.ensures.1 up)
+pub returns : goal.returns
+returns c =
+    λ up. c.between-2.ensures ∙ start_moved _ _ _ _ _ _ _ _ _ (sym c.kept_off.ensures.value ∙ c.in-Some.is) (c.lower_bound-start.ensures.1 up)

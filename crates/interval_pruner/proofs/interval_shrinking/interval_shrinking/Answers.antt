@@ -5,8 +5,7 @@ use mathlib.Core.Bool.{Bool, true}
 use mathlib.Core.List.{List}
 use Rattle.interval_pruner.specs.declared.Zeros.{Zeros}
 use Rattle.interval_pruner.specs.declared.Bound.{Bound}
-use Rattle.interval_pruner.specs.declared.Shrunk.{Shrunk}
-use Rattle.interval_pruner.specs.declared.Shrunk.TheVariants.{Dropped, To}
+use Rattle.std.specs.Prelude.{Option, Some, None}
 use Rattle.interval_pruner.specs.Column.{Column, recorded_column}
 use Rattle.interval_pruner.specs.Pruner.{past, short, interval_within, shrunk_of}
 use Rattle.interval_pruner.proofs.Shrinking.{next, left_step, right_step, both_steps, in_steps, not_small}
@@ -16,43 +15,43 @@ module _ (places table : List ℕ) (gap : ℕ) (small : Bool) (z : Zeros) (b : �
   abbrev col : Column
   col = recorded_column places table gap true
 
-  abbrev left : Shrunk
+  abbrev left : Option Bound
   left = shrunk_of (recorded_column places table gap small) z b i
 
-  module _ (s : Shrunk) (p : s ≡ interval_within i (past z.left i.first) (short z.right i.last)) where
+  module _ (s : Option Bound) (p : s ≡ interval_within i (past z.left i.first) (short z.right i.last)) where
     cleared : left ≡ next s (both_steps col b)
     cleared =
         ap (λ (t : Bool). shrunk_of (recorded_column places table gap t) z b i) e ∙ in_steps col b z i refl ∙
-        sym (ap (λ (w : Shrunk). next w (both_steps col b)) p)
+        sym (ap (λ (w : Option Bound). next w (both_steps col b)) p)
 
-    at_first : s ≡ Dropped → Dropped ≡ left
-    at_first q = sym (cleared ∙ ap (λ (w : Shrunk). next w (both_steps col b)) q)
+    at_first : s ≡ None → None ≡ left
+    at_first q = sym (cleared ∙ ap (λ (w : Option Bound). next w (both_steps col b)) q)
 
-    module _ (j : Bound) (q : s ≡ To j) (w : Shrunk) (r : w ≡ left_step col b j) where
+    module _ (j : Bound) (q : s ≡ Some j) (w : Option Bound) (r : w ≡ left_step col b j) where
       started : left ≡ next w (right_step col b)
-      started = cleared ∙ ap (λ (v : Shrunk). next v (both_steps col b)) q ∙ sym (ap (λ (v : Shrunk). next v (right_step col b)) r)
+      started = cleared ∙ ap (λ (v : Option Bound). next v (both_steps col b)) q ∙ sym (ap (λ (v : Option Bound). next v (right_step col b)) r)
 
-      at_second : w ≡ Dropped → Dropped ≡ left
-      at_second d = sym (started ∙ ap (λ (v : Shrunk). next v (right_step col b)) d)
+      at_second : w ≡ None → None ≡ left
+      at_second d = sym (started ∙ ap (λ (v : Option Bound). next v (right_step col b)) d)
 
-      at_last : (k : Bound) → w ≡ To k → right_step col b k ≡ left
-      at_last k d = sym (started ∙ ap (λ (v : Shrunk). next v (right_step col b)) d)
+      at_last : (k : Bound) → w ≡ Some k → right_step col b k ≡ left
+      at_last k d = sym (started ∙ ap (λ (v : Option Bound). next v (right_step col b)) d)
 
-pub returns-in_default : goal.returns-in_default
-returns-in_default c = λ up. at_first _ _ _ _ _ _ _ c.if-small.true _ c.between_zeros-cleared.ensures c.in_default.is
+pub returns-then-not-small : goal.returns-then-not-small
+returns-then-not-small c = λ up. c.between.ensures ∙ sym (not_small _ _ _ _ c.if-not-small.true)
 
-pub returns-in_default-started : goal.returns-in_default-started
-returns-in_default-started c =
+pub returns-in_err-open : goal.returns-in_err-open
+returns-in_err-open c =
+    λ up. c.from_residual.ensures ∙ at_first _ _ _ _ _ _ _ c.if-not-small.false _ c.between_zeros.ensures c.in_err-open.was
+
+pub returns-in_err-rest : goal.returns-in_err-rest
+returns-in_err-rest c =
     λ up.
-    at_second _ _ _ _ _ _ _ c.if-small.true _ c.between_zeros-cleared.ensures _ c.in-To.is _ (c.away_from_left-started.ensures up)
-    c.in_default-started.is
-
-pub returns-then-small : goal.returns-then-small
-returns-then-small c =
-    λ up.
-    c.away_from_right.ensures up ∙
-    at_last _ _ _ _ _ _ _ c.if-small.true _ c.between_zeros-cleared.ensures _ c.in-To.is _ (c.away_from_left-started.ensures up) _
-    c.in-To-started.is
+    c.from_residual-in_err-rest.ensures ∙
+    at_second _ _ _ _ _ _ _ c.if-not-small.false _ c.between_zeros.ensures _ c.in_ok-open.was _ (c.away_from_left.ensures up) c.in_err-rest.was
 
 pub returns : goal.returns
-returns c = λ up. c.between.ensures ∙ sym (not_small _ _ _ _ c.if-small.false)
+returns c =
+    λ up.
+    c.away_from_right.ensures up ∙
+    at_last _ _ _ _ _ _ _ c.if-not-small.false _ c.between_zeros.ensures _ c.in_ok-open.was _ (c.away_from_left.ensures up) _ c.in_ok-rest.was

@@ -18,4 +18,4 @@ returns-then-small c =
 pub returns : goal.returns
 returns c =
     let a = c.args in
-    λ up. c.minus-before.ensures ∙ lower_large _ a.zeros a.distance a.cut a.first c.if-small.false
+    λ up. c.saturating_sub-before.ensures ∙ lower_large _ a.zeros a.distance a.cut a.first c.if-small.false

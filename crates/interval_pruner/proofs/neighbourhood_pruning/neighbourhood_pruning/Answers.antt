@@ -27,4 +27,4 @@ returns c =
     let a = c.args in
     λ l.
     paired _ a.gap a.small a.zeros a.excess a.cut a.first _ _ _
-    (omega (arith, c.wide_word-2.ensures.0, c.wide_word.ensures.0)) (c.upper_from.ensures l) (c.lower_to.ensures l.ascending)
+    (omega arith) (c.upper_from.ensures l) (c.lower_to.ensures l.ascending)

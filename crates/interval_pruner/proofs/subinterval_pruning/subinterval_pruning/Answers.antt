@@ -1,5 +1,5 @@
 -- `interval_pruner::subinterval_pruning::subinterval_pruning` meets its contract: where support is small the test is the definition's.
-use mathlib.Core.Path.{◌≡◌, sym, ap, ◌∙◌}
+use mathlib.Core.Path.{◌≡◌, refl, sym, ap, ◌∙◌}
 use Prim.Native.Nat.{ℕ, ◌+◌}
 use mathlib.Core.Bool.{Bool, true, false, ◌&&◌}
 use lib.Dec.{leb}
@@ -25,8 +25,7 @@ pub returns-then-small : goal.returns-then-small
 unfolding left_error right_error
 returns-then-small c =
     λ places.
-    tested _ _ _ c.if-small.true c.held.ensures.value c.held-then-small.ensures.value
-    c.wide_word.ensures.0 c.wide_word-then-small.ensures.0
+    tested _ _ _ c.if-small.true c.held.ensures.left c.held-then-small.ensures.right refl refl
 
 pub returns : goal.returns
 returns c = λ places. untested _ _ _ c.if-small.false
