@@ -11,7 +11,7 @@ use Rattle.basics.specs.Choice.{bit}
 use Rattle.basics.specs.Lists.{All, total, tally}
 use Rattle.basics.proofs.Choice.{decide, order, and_left, and_right, and_both, bit_true, bit_false, bit_le}
 use Rattle.basics.proofs.Lists.{all_map}
-use Rattle.interval_pruner.specs.declared.Tried.TheVariants.{Nothing}
+use Rattle.std.specs.Prelude.{None}
 use Rattle.interval_pruner.specs.declared.Bound.{Bound}
 use Rattle.interval_pruner.specs.declared.Zeros.{Zeros}
 use Rattle.interval_pruner.specs.Column.{Column, place_in, error_of}
@@ -153,7 +153,7 @@ disjoint c bound first last error n fair =
         arith,
         tally_total k s.queue,
         spent_turns c bound first last fair (held k) (λ _. 0) (by_held c k) n (start first last error) (kept_start c bound first last fair error),
-        bit_le (holds k (record { first = first; last = last; left = Nothing; right = Nothing })),
+        bit_le (holds k (record { first = first; last = last; left = None; right = None })),
       );
     }
 

@@ -3,11 +3,10 @@
 use mathlib.Core.Path.{◌≡◌, refl}
 use Prim.Native.Nat.{ℕ}
 use mathlib.Core.Bool.{Bool, true, false}
-use mathlib.Core.Option.{Option, none, some}
+use mathlib.Core.Option.{Option as Maybe, none, some}
 use mathlib.Core.List.{List, [], ◌∷◌}
 use Rattle.interval_pruner.specs.declared.Bound.{Bound}
-use Rattle.interval_pruner.specs.declared.Tried.{Tried}
-use Rattle.interval_pruner.specs.declared.Tried.TheVariants.{Nothing, Cut}
+use Rattle.std.specs.Prelude.{Option, Some, None}
 use Rattle.column_search.specs.Search.{State, turns, start, column_run}
 use Rattle.column_search.proofs.Computes.{computes}
 use Rattle.column_search.proofs.Example.{listed}
@@ -17,7 +16,7 @@ record Case : Type 0 where
   run : State
   answer : State
 
-abbrev drawn : (places : List ℕ) (errors : List (ℕ × ℕ)) (gap bound : ℕ) (small : Bool) (first last begin error : ℕ) (best : Option ℕ) (tried : List ℕ)
+abbrev drawn : (places : List ℕ) (errors : List (ℕ × ℕ)) (gap bound : ℕ) (small : Bool) (first last begin error : ℕ) (best : Maybe ℕ) (tried : List ℕ)
     → Case
 drawn places errors gap bound small first last begin error best tried =
     record {
@@ -26,11 +25,11 @@ drawn places errors gap bound small first last begin error best tried =
     }
 
 -- A final state does not show where the parts of a try began and ended: states on the way, after n intervals.
-abbrev span : ℕ → ℕ → Tried → Tried → Bound
+abbrev span : ℕ → ℕ → Option ℕ → Option ℕ → Bound
 span first last left right = record { first = first; last = last; left = left; right = right }
 
 abbrev partway : (places : List ℕ) (errors : List (ℕ × ℕ)) (gap bound : ℕ) (small : Bool) (first last begin n : ℕ) (queue : List Bound) (error : ℕ)
-    (best : Option ℕ) (tried : List ℕ) → Case
+    (best : Maybe ℕ) (tried : List ℕ) → Case
 partway places errors gap bound small first last begin n queue error best tried =
     record {
       run = turns (record { places = places; errors = listed errors; gap = gap; small = small }) bound n (start first last begin);
@@ -107,17 +106,17 @@ cases =
     ∷ drawn (1 ∷ 2 ∷ []) ((6, 7) ∷ (1, 1) ∷ []) 1 3 true 0 1 5 5 none (0 ∷ [])
     ∷ drawn (1 ∷ 3 ∷ 4 ∷ 5 ∷ 7 ∷ 8 ∷ 9 ∷ []) ((2, 3) ∷ (2, 3) ∷ (2, 0) ∷ (3, 3) ∷ (2, 4) ∷ (1, 2) ∷ (0, 2) ∷ []) 0 1000000 false 0 6 200 2 (some 6) (0 ∷ 2 ∷ 4 ∷ 6 ∷ 1 ∷ 5 ∷ 3 ∷ [])
     ∷ drawn (1 ∷ 2 ∷ 3 ∷ 4 ∷ 6 ∷ 9 ∷ 10 ∷ 11 ∷ 14 ∷ []) ((1, 2) ∷ (0, 1) ∷ (1, 1) ∷ (2, 1) ∷ (0, 1) ∷ (1, 0) ∷ (2, 1) ∷ (0, 2) ∷ (1, 1) ∷ []) 0 1000000 true 7 7 20 2 (some 7) (7 ∷ [])
-    ∷ partway (2 ∷ 4 ∷ 5 ∷ []) ((1, 0) ∷ (1, 1) ∷ (0, 1) ∷ []) 0 1000000 true 0 2 5 2 (span 0 1 Nothing (Cut 1) ∷ []) 1 (some 2) (2 ∷ 1 ∷ [])
-    ∷ partway (1 ∷ 2 ∷ 5 ∷ 6 ∷ []) ((0, 1) ∷ (3, 2) ∷ (1, 0) ∷ (6, 3) ∷ []) 0 5 false 0 3 20 3 (span 3 3 (Cut 2) Nothing ∷ []) 1 (some 2) (0 ∷ 2 ∷ 1 ∷ [])
-    ∷ partway (1 ∷ 4 ∷ 6 ∷ []) ((0, 2) ∷ (0, 2) ∷ (2, 0) ∷ []) 0 3 true 0 2 20 2 (span 0 1 Nothing (Cut 1) ∷ []) 2 (some 1) (2 ∷ 1 ∷ [])
-    ∷ partway (1 ∷ 3 ∷ 5 ∷ 6 ∷ 8 ∷ 11 ∷ []) ((0, 0) ∷ (1, 0) ∷ (1, 1) ∷ (1, 1) ∷ (0, 1) ∷ (0, 1) ∷ []) 1 5 false 0 5 8 2 (span 0 1 Nothing (Cut 2) ∷ span 5 5 (Cut 4) Nothing ∷ span 3 3 (Cut 2) (Cut 4) ∷ []) 1 (some 4) (4 ∷ 2 ∷ [])
-    ∷ partway (3 ∷ 5 ∷ 8 ∷ 11 ∷ 12 ∷ []) ((0, 1) ∷ (1, 1) ∷ (1, 0) ∷ (1, 1) ∷ (1, 0) ∷ []) 2 3 true 0 4 5 1 (span 3 4 (Cut 2) Nothing ∷ span 0 2 Nothing (Cut 2) ∷ []) 1 (some 2) (2 ∷ [])
-    ∷ partway (1 ∷ 2 ∷ 4 ∷ 5 ∷ 6 ∷ 9 ∷ 11 ∷ []) ((1, 2) ∷ (2, 4) ∷ (2, 3) ∷ (3, 1) ∷ (2, 2) ∷ (3, 2) ∷ (4, 0) ∷ []) 0 3 true 0 6 3 1 (span 5 6 (Cut 3) Nothing ∷ span 0 2 Nothing (Cut 3) ∷ []) 3 none (3 ∷ [])
-    ∷ partway (1 ∷ 2 ∷ 4 ∷ 5 ∷ 7 ∷ 8 ∷ 9 ∷ []) ((1, 1) ∷ (0, 0) ∷ (1, 1) ∷ (1, 1) ∷ (0, 0) ∷ (0, 0) ∷ (1, 0) ∷ []) 1 3 true 0 6 5 1 (span 4 6 (Cut 3) Nothing ∷ span 0 2 Nothing (Cut 3) ∷ []) 2 (some 3) (3 ∷ [])
-    ∷ partway (1 ∷ 2 ∷ 3 ∷ 5 ∷ 6 ∷ 7 ∷ 8 ∷ []) ((1, 2) ∷ (3, 5) ∷ (5, 6) ∷ (6, 0) ∷ (4, 0) ∷ (2, 3) ∷ (2, 6) ∷ []) 0 3 true 0 6 8 1 (span 0 1 Nothing (Cut 3) ∷ []) 6 (some 3) (3 ∷ [])
-    ∷ partway (2 ∷ 3 ∷ 4 ∷ 5 ∷ 8 ∷ 9 ∷ 11 ∷ []) ((0, 2) ∷ (3, 0) ∷ (1, 6) ∷ (1, 5) ∷ (3, 1) ∷ (5, 3) ∷ (4, 5) ∷ []) 1 5 true 0 6 8 2 (span 0 1 Nothing (Cut 3) ∷ []) 6 (some 3) (5 ∷ 3 ∷ [])
-    ∷ partway (3 ∷ 4 ∷ 7 ∷ 10 ∷ 11 ∷ 14 ∷ []) ((4, 4) ∷ (3, 2) ∷ (0, 1) ∷ (1, 4) ∷ (3, 4) ∷ (2, 5) ∷ []) 0 5 true 0 5 8 2 (span 0 2 Nothing (Cut 2) ∷ []) 1 (some 2) (4 ∷ 2 ∷ [])
-    ∷ partway (1 ∷ 2 ∷ 5 ∷ 7 ∷ 10 ∷ 11 ∷ []) ((2, 1) ∷ (2, 2) ∷ (1, 1) ∷ (1, 2) ∷ (2, 2) ∷ (1, 0) ∷ []) 2 5 true 0 5 5 1 (span 4 5 (Cut 2) Nothing ∷ span 0 2 Nothing (Cut 2) ∷ []) 2 (some 2) (2 ∷ [])
+    ∷ partway (2 ∷ 4 ∷ 5 ∷ []) ((1, 0) ∷ (1, 1) ∷ (0, 1) ∷ []) 0 1000000 true 0 2 5 2 (span 0 1 None (Some 1) ∷ []) 1 (some 2) (2 ∷ 1 ∷ [])
+    ∷ partway (1 ∷ 2 ∷ 5 ∷ 6 ∷ []) ((0, 1) ∷ (3, 2) ∷ (1, 0) ∷ (6, 3) ∷ []) 0 5 false 0 3 20 3 (span 3 3 (Some 2) None ∷ []) 1 (some 2) (0 ∷ 2 ∷ 1 ∷ [])
+    ∷ partway (1 ∷ 4 ∷ 6 ∷ []) ((0, 2) ∷ (0, 2) ∷ (2, 0) ∷ []) 0 3 true 0 2 20 2 (span 0 1 None (Some 1) ∷ []) 2 (some 1) (2 ∷ 1 ∷ [])
+    ∷ partway (1 ∷ 3 ∷ 5 ∷ 6 ∷ 8 ∷ 11 ∷ []) ((0, 0) ∷ (1, 0) ∷ (1, 1) ∷ (1, 1) ∷ (0, 1) ∷ (0, 1) ∷ []) 1 5 false 0 5 8 2 (span 0 1 None (Some 2) ∷ span 5 5 (Some 4) None ∷ span 3 3 (Some 2) (Some 4) ∷ []) 1 (some 4) (4 ∷ 2 ∷ [])
+    ∷ partway (3 ∷ 5 ∷ 8 ∷ 11 ∷ 12 ∷ []) ((0, 1) ∷ (1, 1) ∷ (1, 0) ∷ (1, 1) ∷ (1, 0) ∷ []) 2 3 true 0 4 5 1 (span 3 4 (Some 2) None ∷ span 0 2 None (Some 2) ∷ []) 1 (some 2) (2 ∷ [])
+    ∷ partway (1 ∷ 2 ∷ 4 ∷ 5 ∷ 6 ∷ 9 ∷ 11 ∷ []) ((1, 2) ∷ (2, 4) ∷ (2, 3) ∷ (3, 1) ∷ (2, 2) ∷ (3, 2) ∷ (4, 0) ∷ []) 0 3 true 0 6 3 1 (span 5 6 (Some 3) None ∷ span 0 2 None (Some 3) ∷ []) 3 none (3 ∷ [])
+    ∷ partway (1 ∷ 2 ∷ 4 ∷ 5 ∷ 7 ∷ 8 ∷ 9 ∷ []) ((1, 1) ∷ (0, 0) ∷ (1, 1) ∷ (1, 1) ∷ (0, 0) ∷ (0, 0) ∷ (1, 0) ∷ []) 1 3 true 0 6 5 1 (span 4 6 (Some 3) None ∷ span 0 2 None (Some 3) ∷ []) 2 (some 3) (3 ∷ [])
+    ∷ partway (1 ∷ 2 ∷ 3 ∷ 5 ∷ 6 ∷ 7 ∷ 8 ∷ []) ((1, 2) ∷ (3, 5) ∷ (5, 6) ∷ (6, 0) ∷ (4, 0) ∷ (2, 3) ∷ (2, 6) ∷ []) 0 3 true 0 6 8 1 (span 0 1 None (Some 3) ∷ []) 6 (some 3) (3 ∷ [])
+    ∷ partway (2 ∷ 3 ∷ 4 ∷ 5 ∷ 8 ∷ 9 ∷ 11 ∷ []) ((0, 2) ∷ (3, 0) ∷ (1, 6) ∷ (1, 5) ∷ (3, 1) ∷ (5, 3) ∷ (4, 5) ∷ []) 1 5 true 0 6 8 2 (span 0 1 None (Some 3) ∷ []) 6 (some 3) (5 ∷ 3 ∷ [])
+    ∷ partway (3 ∷ 4 ∷ 7 ∷ 10 ∷ 11 ∷ 14 ∷ []) ((4, 4) ∷ (3, 2) ∷ (0, 1) ∷ (1, 4) ∷ (3, 4) ∷ (2, 5) ∷ []) 0 5 true 0 5 8 2 (span 0 2 None (Some 2) ∷ []) 1 (some 2) (4 ∷ 2 ∷ [])
+    ∷ partway (1 ∷ 2 ∷ 5 ∷ 7 ∷ 10 ∷ 11 ∷ []) ((2, 1) ∷ (2, 2) ∷ (1, 1) ∷ (1, 2) ∷ (2, 2) ∷ (1, 0) ∷ []) 2 5 true 0 5 5 1 (span 4 5 (Some 2) None ∷ span 0 2 None (Some 2) ∷ []) 2 (some 2) (2 ∷ [])
     ∷ []
 
 agree : runs_of cases ≡ answers_of cases

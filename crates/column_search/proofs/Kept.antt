@@ -6,8 +6,7 @@ use native.Mathlib.Omega.{arith}
 use mathlib.Core.List.{List, [], ◌∷◌}
 use Rattle.basics.specs.Lists.{All, here, there}
 use Rattle.basics.proofs.Lists.{all_map}
-use Rattle.interval_pruner.specs.declared.Tried.{Tried}
-use Rattle.interval_pruner.specs.declared.Tried.TheVariants.{Nothing, Cut}
+use Rattle.std.specs.Prelude.{Option, Some, None}
 use Rattle.interval_pruner.specs.declared.Bound.{Bound}
 use Rattle.interval_pruner.specs.declared.Zeros.{Zeros}
 use Rattle.interval_pruner.specs.Column.{Column, place_in, error_of}
@@ -16,9 +15,9 @@ use Rattle.column_search.specs.Laws.{Inside, Feasible, RunOf, Among, IfCut, Reme
 use Rattle.column_search.specs.Loop.{Seen, Waiting, Kept}
 use Rattle.column_search.proofs.Steps.{parts_all, try_all, turn_case}
 
-pub cut_map : (P Q : ℕ → Type 0) → ((k : ℕ) → P k → Q k) → (t : Tried) → IfCut P t → IfCut Q t
-cut_map P Q f Nothing h = tt
-cut_map P Q f (Cut k) h = f k h
+pub cut_map : (P Q : ℕ → Type 0) → ((k : ℕ) → P k → Q k) → (t : Option ℕ) → IfCut P t → IfCut Q t
+cut_map P Q f None h = tt
+cut_map P Q f (Some k) h = f k h
 
 module _ (c : Column) (first last b b' m : ℕ) (tried : List ℕ) (less : b' ≤ b) where
   seen_later : (k : ℕ) → Seen c first last b tried k → Seen c first last b' (m ∷ tried) k

@@ -7,8 +7,7 @@ use mathlib.Core.List.{List, [], ◌∷◌}
 use lib.Dec.{eqb, eqb→eq}
 use Rattle.basics.specs.Lists.{All, here, there}
 use Rattle.basics.proofs.Choice.{by_test, neqb}
-use Rattle.interval_pruner.specs.declared.Tried.{Tried}
-use Rattle.interval_pruner.specs.declared.Tried.TheVariants.{Nothing, Cut}
+use Rattle.std.specs.Prelude.{Option, Some, None}
 use Rattle.interval_pruner.specs.Column.{left_error, right_error}
 use Rattle.interval_pruner.proofs.Results.{max_either, min_either}
 use Rattle.interval_pruner.specs.Pruner.{highest_zero, lowest_zero, zeros_after}
@@ -26,20 +25,20 @@ all_among P k (t ∷ tried) h (there a) = all_among P k tried h.1 a
 
 module _ (P : ℕ → Type 0) (below : ℕ → ℕ → Type 0) (k : ℕ) (tried : List ℕ) where
   -- a cut that is not such changes nothing
-  skips : (P k → ⊥) → (t : Tried) → Extreme P below tried t → Extreme P below (k ∷ tried) t
-  skips f Nothing h = go
+  skips : (P k → ⊥) → (t : Option ℕ) → Extreme P below tried t → Extreme P below (k ∷ tried) t
+  skips f None h = go
     where
       go : (x : ℕ) → Among x (k ∷ tried) → P x → ⊥
       go x (here e) p = f (rw e p)
       go x (there a) p = h x a p
-  skips f (Cut z) h = (there h.0, h.1, go)
+  skips f (Some z) h = (there h.0, h.1, go)
     where
       go : (x : ℕ) → Among x (k ∷ tried) → P x → below x z
       go x (here e) p = absurd (f (rw e p))
       go x (there a) p = h.2 x a p
 
   -- the first that is such is the mark
-  opens : P k → below k k → Extreme P below tried Nothing → Extreme P below (k ∷ tried) (Cut k)
+  opens : P k → below k k → Extreme P below tried None → Extreme P below (k ∷ tried) (Some k)
   opens p r h = (here refl, p, go)
     where
       go : (x : ℕ) → Among x (k ∷ tried) → P x → below x k
@@ -48,7 +47,7 @@ module _ (P : ℕ → Type 0) (below : ℕ → ℕ → Type 0) (k : ℕ) (tried 
 
   -- of two such the further one, m, is
   moves : (z m : ℕ) → P k → below k m → ((x : ℕ) → below x z → below x m) → ((Q : ℕ → Type 0) → Q z → Q k → Q m)
-      → Extreme P below tried (Cut z) → Extreme P below (k ∷ tried) (Cut m)
+      → Extreme P below tried (Some z) → Extreme P below (k ∷ tried) (Some m)
   moves z m p r f either h = (either (λ x. Among x (k ∷ tried)) (there h.0) (here refl), either P h.1 p, go)
     where
       go : (x : ℕ) → Among x (k ∷ tried) → P x → below x m
@@ -56,15 +55,15 @@ module _ (P : ℕ → Type 0) (below : ℕ → ℕ → Type 0) (k : ℕ) (tried 
       go x (there a) q = f x (h.2 x a q)
 
 module _ (P : ℕ → Type 0) (k : ℕ) (tried : List ℕ) (p : P k) where
-  rises : (t : Tried) → Extreme P (λ x z. x ≤ z) tried t → Extreme P (λ x z. x ≤ z) (k ∷ tried) (highest_zero k t)
+  rises : (t : Option ℕ) → Extreme P (λ x z. x ≤ z) tried t → Extreme P (λ x z. x ≤ z) (k ∷ tried) (highest_zero k t)
   unfolding highest_zero
-  rises Nothing h = opens P (λ x z. x ≤ z) k tried p (omega arith) h
-  rises (Cut z) h = moves P (λ x z. x ≤ z) k tried z (max z k) p (omega arith) (λ x l. omega arith) (λ Q a b. max_either Q z k a b) h
+  rises None h = opens P (λ x z. x ≤ z) k tried p (omega arith) h
+  rises (Some z) h = moves P (λ x z. x ≤ z) k tried z (max z k) p (omega arith) (λ x l. omega arith) (λ Q a b. max_either Q z k a b) h
 
-  sinks : (t : Tried) → Extreme P (λ x z. z ≤ x) tried t → Extreme P (λ x z. z ≤ x) (k ∷ tried) (lowest_zero k t)
+  sinks : (t : Option ℕ) → Extreme P (λ x z. z ≤ x) tried t → Extreme P (λ x z. z ≤ x) (k ∷ tried) (lowest_zero k t)
   unfolding lowest_zero
-  sinks Nothing h = opens P (λ x z. z ≤ x) k tried p (omega arith) h
-  sinks (Cut z) h = moves P (λ x z. z ≤ x) k tried z (min z k) p (omega arith) (λ x l. omega arith) (λ Q a b. min_either Q z k a b) h
+  sinks None h = opens P (λ x z. z ≤ x) k tried p (omega arith) h
+  sinks (Some z) h = moves P (λ x z. z ≤ x) k tried z (min z k) p (omega arith) (λ x l. omega arith) (λ Q a b. min_either Q z k a b) h
 
 pub marks : Marks
 unfolding zeros_of zeros_after
@@ -79,7 +78,7 @@ marks c (k ∷ tried) = (
 )
 
 -- what holds of every tried cut holds of a mark
-pub mark_of : (Q P : ℕ → Type 0) (below : ℕ → ℕ → Type 0) (tried : List ℕ) (t : Tried) → All Q tried → Extreme P below tried t
+pub mark_of : (Q P : ℕ → Type 0) (below : ℕ → ℕ → Type 0) (tried : List ℕ) (t : Option ℕ) → All Q tried → Extreme P below tried t
     → IfCut (λ z. Q z × P z) t
-mark_of Q P below tried Nothing v h = tt
-mark_of Q P below tried (Cut z) v h = (all_among Q z tried v h.0, h.1)
+mark_of Q P below tried None v h = tt
+mark_of Q P below tried (Some z) v h = (all_among Q z tried v h.0, h.1)

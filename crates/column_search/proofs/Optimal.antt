@@ -12,11 +12,8 @@ use Rattle.basics.proofs.Choice.{by_test, by_leb, by_ltb, order, reach, and_righ
 use Rattle.basics.proofs.Lists.{any_left, any_right}
 use Rattle.cuts.specs.Lookups.{at_least, above, first_from, sought_from}
 use Rattle.cuts.proofs.Lookups.{first_low, first_le, first_at, sought_low, sought_at, end_past}
-use Rattle.interval_pruner.specs.declared.Tried.{Tried}
-use Rattle.interval_pruner.specs.declared.Tried.TheVariants.{Nothing, Cut}
+use Rattle.std.specs.Prelude.{Option, Some, None}
 use Rattle.interval_pruner.specs.declared.Bound.{Bound}
-use Rattle.interval_pruner.specs.declared.Shrunk.{Shrunk}
-use Rattle.interval_pruner.specs.declared.Shrunk.TheVariants.{Dropped, To}
 use Rattle.interval_pruner.specs.Column.{Column, place_in, left_error, right_error, error_of}
 use Rattle.interval_pruner.specs.Pruner.{past, short, sum_of, held_error, hopeless, start_after, interval_within, end_above, end_before, shrunk_of, upper_from, lower_near, lower_to, parts_of}
 use Rattle.interval_pruner.proofs.Shrinking.{start_low}
@@ -33,24 +30,24 @@ abbrev Has : ℕ → Bound → Type 0
 Has k i = (i.first ≤ k) × (k ≤ i.last)
 
 -- an interval is left, and it is such
-abbrev HitTo : (Bound → Type 0) → Shrunk → Type 0
-HitTo P Dropped = ⊥
-HitTo P (To j) = P j
+abbrev HitTo : (Bound → Type 0) → Option Bound → Type 0
+HitTo P None = ⊥
+HitTo P (Some j) = P j
 
 module _ (c : Column) (bound first last : ℕ) (fair : Feasible c first last) (met : Metric c first last) where
   -- k is worth a try
   module _ (b k : ℕ) (from : first ≤ k) (till : k ≤ last) (worth : error_of c k + c.gap < b) (tried : List ℕ) where
     -- ---- step 1
 
-    left_held : (i : Bound) (o : Tried) → IfCut (λ l. (l < i.first) × Seen c first last b tried l) o → i.first ≤ k → held_error (left_error c) o ≤ left_error c k
+    left_held : (i : Bound) (o : Option ℕ) → IfCut (λ l. (l < i.first) × Seen c first last b tried l) o → i.first ≤ k → held_error (left_error c) o ≤ left_error c k
     unfolding held_error
-    left_held i Nothing g h = omega arith
-    left_held i (Cut l) g h = met.lefts l k g.1.from (omega arith) till
+    left_held i None g h = omega arith
+    left_held i (Some l) g h = met.lefts l k g.1.from (omega arith) till
 
-    right_held : (i : Bound) (o : Tried) → IfCut (λ r. (i.last ≤ r) × Seen c first last b tried r) o → k ≤ i.last → held_error (right_error c) o ≤ right_error c k
+    right_held : (i : Bound) (o : Option ℕ) → IfCut (λ r. (i.last ≤ r) × Seen c first last b tried r) o → k ≤ i.last → held_error (right_error c) o ≤ right_error c k
     unfolding held_error
-    right_held i Nothing g h = omega arith
-    right_held i (Cut r) g h = met.rights k r from (omega arith) g.1.till
+    right_held i None g h = omega arith
+    right_held i (Some r) g h = met.rights k r from (omega arith) g.1.till
 
     no_hope : (i : Bound) → Waiting c first last b tried i → Has k i → T (hopeless c b i) → ⊥
     unfolding hopeless
@@ -65,17 +62,17 @@ module _ (c : Column) (bound first last : ℕ) (fair : Feasible c first last) (m
 
     -- ---- step 2
 
-    past_keeps : (o : Tried) (a : ℕ) → IfCut (λ z. Seen c first last b tried z × (left_error c z ≡ 0)) o → a ≤ k → past o a ≤ k
+    past_keeps : (o : Option ℕ) (a : ℕ) → IfCut (λ z. Seen c first last b tried z × (left_error c z ≡ 0)) o → a ≤ k → past o a ≤ k
     unfolding past
-    past_keeps Nothing a g h = h
-    past_keeps (Cut z) a g h =
+    past_keeps None a g h = h
+    past_keeps (Some z) a g h =
         let s : Seen c first last b tried z = g.0 in
         order k z (λ l. absurd (omega (arith, met.rights k z from l s.till))) (λ l. omega arith)
 
-    short_keeps : (o : Tried) (e : ℕ) → IfCut (λ z. Seen c first last b tried z × (right_error c z ≡ 0)) o → k ≤ e → k ≤ short o e
+    short_keeps : (o : Option ℕ) (e : ℕ) → IfCut (λ z. Seen c first last b tried z × (right_error c z ≡ 0)) o → k ≤ e → k ≤ short o e
     unfolding short
-    short_keeps Nothing e g h = h
-    short_keeps (Cut z) e g h =
+    short_keeps None e g h = h
+    short_keeps (Some z) e g h =
         let s : Seen c first last b tried z = g.0 in
         order z k (λ l. absurd (omega (arith, met.lefts z k s.from l till))) (λ l. omega arith)
 
@@ -86,11 +83,11 @@ module _ (c : Column) (bound first last : ℕ) (fair : Feasible c first last) (m
     near_left : (r : ℕ) → k ≤ r → r ≤ last → b ≤ sum_of c r → place_in c k + (sum_of c r - b + 1) ≤ place_in c r
     near_left r h g l = omega (arith, met.rights k r from h g, met.left_near k r from h g)
 
-    start_after_keeps : (i : Bound) (o : Tried) (a : ℕ) → IfCut (λ l. (l < i.first) × Seen c first last b tried l) o → i.first ≤ k → a ≤ k
+    start_after_keeps : (i : Bound) (o : Option ℕ) (a : ℕ) → IfCut (λ l. (l < i.first) × Seen c first last b tried l) o → i.first ≤ k → a ≤ k
         → start_after c b o a ≤ k
     unfolding start_after
-    start_after_keeps i Nothing a g f h = h
-    start_after_keeps i (Cut l) a g f h =
+    start_after_keeps i None a g f h = h
+    start_after_keeps i (Some l) a g f h =
         let v : ℕ = place_in c l + (sum_of c l - b) + 1 in
         by_leb (λ x. x ≤ k) b (sum_of c l)
         (λ s. first_le (at_least c.places v) c.places a k h
@@ -111,11 +108,11 @@ module _ (c : Column) (bound first last : ℕ) (fair : Feasible c first last) (m
     unfolding interval_within
     within_keeps i a e h g = by_leb (HitTo (Has k)) a e (λ _. (h, g)) (λ l. absurd (omega arith))
 
-    end_before_keeps : (i : Bound) (o : Tried) (a e : ℕ) → IfCut (λ r. (i.last ≤ r) × Seen c first last b tried r) o → k ≤ i.last
+    end_before_keeps : (i : Bound) (o : Option ℕ) (a e : ℕ) → IfCut (λ r. (i.last ≤ r) × Seen c first last b tried r) o → k ≤ i.last
         → first ≤ a → a ≤ k → k ≤ e → HitTo (Has k) (end_before c b o i a e)
     unfolding end_before end_above
-    end_before_keeps i Nothing a e g f fa h l = within_keeps i a e h l
-    end_before_keeps i (Cut r) a e g f fa h l =
+    end_before_keeps i None a e g f fa h l = within_keeps i a e h l
+    end_before_keeps i (Some r) a e g f fa h l =
         let s : Seen c first last b tried r = g.1 in
         let x : ℕ = place_in c r - (sum_of c r - b + 1) in
         let to : ℕ = first_from (above c.places x) c.places a in
@@ -218,7 +215,7 @@ module _ (c : Column) (bound first last : ℕ) (fair : Feasible c first last) (m
   Worthy s = (k : ℕ) → first ≤ k → k ≤ last → error_of c k + c.gap < limit bound s.error → Any (Has k) s.queue
 
   worthy_try : (s : State) (i : Bound) (rest : List Bound) (j : Bound) → Kept c bound first last (dropped s (i ∷ rest)) → Worthy (dropped s (i ∷ rest))
-      → shrunk_in c bound s i ≡ To j → Inside i j → Worthy (try_cut c bound s rest j)
+      → shrunk_in c bound s i ≡ Some j → Inside i j → Worthy (try_cut c bound s rest j)
   unfolding try_cut
   worthy_try s i rest j h g eq n k hl hk w =
       by_test (Any (Has k)) (ltb (error_of c (middle j)) s.error && eqb (error_of c (middle j)) 0)

@@ -10,11 +10,8 @@ use Rattle.basics.specs.Choice.{pick}
 use Rattle.basics.specs.Lists.{All}
 use Rattle.basics.proofs.Lists.{all_map}
 use Rattle.cuts.specs.Lookups.{at_least, first_from}
-use Rattle.interval_pruner.specs.declared.Tried.{Tried}
-use Rattle.interval_pruner.specs.declared.Tried.TheVariants.{Nothing, Cut}
+use Rattle.std.specs.Prelude.{Option, Some, None}
 use Rattle.interval_pruner.specs.declared.Bound.{Bound}
-use Rattle.interval_pruner.specs.declared.Shrunk.{Shrunk}
-use Rattle.interval_pruner.specs.declared.Shrunk.TheVariants.{Dropped, To}
 use Rattle.interval_pruner.specs.declared.Zeros.{Zeros}
 use Rattle.interval_pruner.specs.declared.Parts.{Parts}
 use Rattle.interval_pruner.specs.Column.{Column, place_in, left_error, right_error, error_of}
@@ -40,15 +37,15 @@ module _ (c : Column) (errors : ℕ → ℕ × ℕ) where
 
   -- ---- steps 1 and 2
 
-  held_same : {f g : ℕ → ℕ} → ((k : ℕ) → Agree c errors k → f k ≡ g k) → (o : Tried) → IfCut (Agree c errors) o → held_error f o ≡ held_error g o
+  held_same : {f g : ℕ → ℕ} → ((k : ℕ) → Agree c errors k → f k ≡ g k) → (o : Option ℕ) → IfCut (Agree c errors) o → held_error f o ≡ held_error g o
   unfolding held_error
-  held_same e Nothing h = refl
-  held_same e (Cut k) h = e k h
+  held_same e None h = refl
+  held_same e (Some k) h = e k h
 
-  start_after_same : (b : ℕ) (o : Tried) (first : ℕ) → IfCut (Agree c errors) o → start_after c b o first ≡ start_after (over c errors) b o first
+  start_after_same : (b : ℕ) (o : Option ℕ) (first : ℕ) → IfCut (Agree c errors) o → start_after c b o first ≡ start_after (over c errors) b o first
   unfolding start_after
-  start_after_same b Nothing first h = refl
-  start_after_same b (Cut k) first h =
+  start_after_same b None first h = refl
+  start_after_same b (Some k) first h =
       ap (λ (x : ℕ). pick (leb b (x + c.gap)) (first_from (at_least c.places (place_in c k + (x + c.gap - b) + 1)) c.places first) first)
       (error_same k h)
 
@@ -56,13 +53,13 @@ module _ (c : Column) (errors : ℕ → ℕ × ℕ) where
   unfolding end_above
   end_above_same i x first last = refl
 
-  end_before_same : (b : ℕ) (o : Tried) (i : Bound) (first last : ℕ) → IfCut (Agree c errors) o
+  end_before_same : (b : ℕ) (o : Option ℕ) (i : Bound) (first last : ℕ) → IfCut (Agree c errors) o
       → end_before c b o i first last ≡ end_before (over c errors) b o i first last
   unfolding end_before
-  end_before_same b Nothing i first last h = refl
-  end_before_same b (Cut k) i first last h =
+  end_before_same b None i first last h = refl
+  end_before_same b (Some k) i first last h =
       ap (λ (x : ℕ). pick (leb b (x + c.gap)) (end_above c i (place_in c k - (x + c.gap - b + 1)) first last) (interval_within i first last)) (error_same k h)
-      ∙ ap (λ (r : Shrunk). pick (leb b (sum_of (over c errors) k)) r (interval_within i first last))
+      ∙ ap (λ (r : Option Bound). pick (leb b (sum_of (over c errors) k)) r (interval_within i first last))
       (end_above_same i (place_in c k - (sum_of (over c errors) k - b + 1)) first last)
 
 pub same_hope : SameHope
@@ -75,7 +72,7 @@ unfolding shrunk_of
 same_shrunk c errors z b i l r =
     let p : ℕ = past z.left i.first in
     let e : ℕ = short z.right i.last in
-    ap (λ (x : Shrunk). pick c.small x (interval_within i i.first i.last))
+    ap (λ (x : Option Bound). pick c.small x (interval_within i i.first i.last))
     (ap (λ (a : ℕ). end_before c b i.right i a e) (start_after_same c errors b i.left p l)
     ∙ end_before_same c errors b i.right i (start_after (over c errors) b i.left p) e r)
 
@@ -134,11 +131,11 @@ module _ (c : Column) (errors : ℕ → ℕ × ℕ) (bound first last : ℕ) (ag
   agree_tried : (b : ℕ) (tried l : List ℕ) → All (Seen c first last b tried) l → All (Agree c errors) l
   agree_tried b tried l h = all_map (Seen c first last b tried) (Agree c errors) (λ k s. agree k s.from s.till) l h
 
-  shrink_same : (s : State) (i : Bound) (rest : List Bound) (o : Shrunk) → RunOf first last i → IfTo (Inside i) o → All (Agree c errors) s.tried
+  shrink_same : (s : State) (i : Bound) (rest : List Bound) (o : Option Bound) → RunOf first last i → IfTo (Inside i) o → All (Agree c errors) s.tried
       → after_shrink c bound s rest o ≡ after_shrink (over c errors) bound s rest o
   unfolding after_shrink
-  shrink_same s i rest Dropped r n g = refl
-  shrink_same s i rest (To j) r n g = same_try c errors bound s rest j (agree (middle j) (omega arith) (omega arith)) g
+  shrink_same s i rest None r n g = refl
+  shrink_same s i rest (Some j) r n g = same_try c errors bound s rest j (agree (middle j) (omega arith) (omega arith)) g
 
   turn_on_same : (s : State) (q : List Bound) → Kept c bound first last (dropped s q) → turn_on c bound s q ≡ turn_on (over c errors) bound s q
   unfolding turn_on

@@ -11,11 +11,8 @@ use Rattle.basics.proofs.Choice.{by_test, by_leb, by_ltb, reach, neqb}
 use Rattle.basics.proofs.Lists.{all_append, total_append}
 use Rattle.cuts.specs.Lookups.{at_least, above, first_from}
 use Rattle.cuts.proofs.Lookups.{first_low, sought_le}
-use Rattle.interval_pruner.specs.declared.Tried.{Tried}
-use Rattle.interval_pruner.specs.declared.Tried.TheVariants.{Nothing, Cut}
+use Rattle.std.specs.Prelude.{Option, Some, None}
 use Rattle.interval_pruner.specs.declared.Bound.{Bound}
-use Rattle.interval_pruner.specs.declared.Shrunk.{Shrunk}
-use Rattle.interval_pruner.specs.declared.Shrunk.TheVariants.{Dropped, To}
 use Rattle.interval_pruner.specs.declared.Zeros.{Zeros}
 use Rattle.interval_pruner.specs.Column.{Column, place_in, error_of}
 use Rattle.interval_pruner.specs.Pruner.{past, short, sum_of, start_after, interval_within, end_above, end_before, shrunk_of, upper_from, lower_near, lower_to, parts_of, hopeless}
@@ -25,26 +22,26 @@ use Rattle.column_search.specs.Laws.{IfTo, Inside, Shrinks, Sides}
 
 -- ---- step 2
 
-pub past_ge : (z : Tried) (first : ℕ) → first ≤ past z first
+pub past_ge : (z : Option ℕ) (first : ℕ) → first ≤ past z first
 unfolding past
-past_ge Nothing first = omega arith
-past_ge (Cut z) first = omega arith
+past_ge None first = omega arith
+past_ge (Some z) first = omega arith
 
-pub short_le : (z : Tried) (last : ℕ) → short z last ≤ last
+pub short_le : (z : Option ℕ) (last : ℕ) → short z last ≤ last
 unfolding short
-short_le Nothing last = omega arith
-short_le (Cut z) last = omega arith
+short_le None last = omega arith
+short_le (Some z) last = omega arith
 
 within_in : (i : Bound) (first last : ℕ) → i.first ≤ first → last ≤ i.last → IfTo (Inside i) (interval_within i first last)
 unfolding interval_within
 within_in i first last h g =
     by_leb (IfTo (Inside i)) first last (λ l. record { low = h; full = l; high = g; left = refl; right = refl }) (λ _. tt)
 
-end_before_in : (c : Column) (b : ℕ) (o : Tried) (i : Bound) (first last : ℕ) → i.first ≤ first → last ≤ i.last
+end_before_in : (c : Column) (b : ℕ) (o : Option ℕ) (i : Bound) (first last : ℕ) → i.first ≤ first → last ≤ i.last
     → IfTo (Inside i) (end_before c b o i first last)
 unfolding end_before end_above
-end_before_in c b Nothing i first last h g = within_in i first last h g
-end_before_in c b (Cut k) i first last h g =
+end_before_in c b None i first last h g = within_in i first last h g
+end_before_in c b (Some k) i first last h g =
     let x : ℕ = place_in c k - (sum_of c k - b + 1) in
     by_leb (IfTo (Inside i)) b (sum_of c k)
     (λ _. by_ltb (IfTo (Inside i)) x (place_in c first) (λ _. tt)
@@ -161,23 +158,23 @@ try_total W c bound s rest j =
 -- ---- a turn
 
 -- what shrinking answers in a state
-abbrev pub shrunk_in : Column → ℕ → State → Bound → Shrunk
+abbrev pub shrunk_in : Column → ℕ → State → Bound → Option Bound
 shrunk_in c bound s i = shrunk_of c (zeros_of c s.tried) (limit bound s.error) i
 
 -- what holds after a drop, for either reason, and after each try holds after the turn
 pub turn_cases : (P : State → Type 0) (c : Column) (bound : ℕ) (s : State) (i : Bound) (rest : List Bound)
     → (T (hopeless c (limit bound s.error) i) → P (dropped s rest))
-    → (shrunk_in c bound s i ≡ Dropped → P (dropped s rest))
-    → ((j : Bound) → shrunk_in c bound s i ≡ To j → Inside i j → P (try_cut c bound s rest j))
+    → (shrunk_in c bound s i ≡ None → P (dropped s rest))
+    → ((j : Bound) → shrunk_in c bound s i ≡ Some j → Inside i j → P (try_cut c bound s rest j))
     → P (turn_on c bound s (i ∷ rest))
 unfolding turn_on after_shrink
 turn_cases P c bound s i rest f g k =
     by_test P (hopeless c (limit bound s.error) i) f
     (λ _. go (shrunk_in c bound s i) refl (shrunk_in_lem c (zeros_of c s.tried) (limit bound s.error) i))
   where
-    go : (o : Shrunk) → shrunk_in c bound s i ≡ o → IfTo (Inside i) o → P (after_shrink c bound s rest o)
-    go Dropped e n = g e
-    go (To j) e n = k j e n
+    go : (o : Option Bound) → shrunk_in c bound s i ≡ o → IfTo (Inside i) o → P (after_shrink c bound s rest o)
+    go None e n = g e
+    go (Some j) e n = k j e n
 
 -- the same where the reason does not matter
 pub turn_case : (P : State → Type 0) (c : Column) (bound : ℕ) (s : State) (i : Bound) (rest : List Bound)

@@ -1,13 +1,9 @@
 -- For a signer. What holds of the search of one column, for every evaluator, as statements; `proofs/` proves each.
-use Rattle.std.specs.Prelude.{◌≡◌, ℕ, suc, ◌+◌, ◌-◌, ◌*◌, ◌≤◌, ◌<◌, min, Bool, ◌&&◌, List, [], length, leb}
+use Rattle.std.specs.Prelude.{◌≡◌, ℕ, suc, ◌+◌, ◌-◌, ◌*◌, ◌≤◌, ◌<◌, min, Bool, ◌&&◌, List, [], length, leb, Option, Some, None}
 use Rattle.std.proofs.Math.Option.{none}
 use Rattle.basics.specs.Choice.{Hit}
 use Rattle.basics.specs.Lists.{All, Any, tally}
-use Rattle.interval_pruner.specs.declared.Tried.{Tried}
-use Rattle.interval_pruner.specs.declared.Tried.TheVariants.{Nothing, Cut}
 use Rattle.interval_pruner.specs.declared.Bound.{Bound}
-use Rattle.interval_pruner.specs.declared.Shrunk.{Shrunk}
-use Rattle.interval_pruner.specs.declared.Shrunk.TheVariants.{Dropped, To}
 use Rattle.interval_pruner.specs.declared.Zeros.{Zeros}
 use Rattle.interval_pruner.specs.Column.{Column, place_in, left_error, right_error, error_of}
 use Rattle.interval_pruner.specs.Pruner.{shrunk_of, parts_of}
@@ -32,9 +28,9 @@ state_after c bound first last error n = turns c bound n (start first last error
 -- ---- the steps
 
 -- if an interval is left, it is such
-abbrev pub IfTo : (Bound → Type 0) → Shrunk → Type 0
-IfTo P Dropped = Unit {0}
-IfTo P (To j) = P j
+abbrev pub IfTo : (Bound → Type 0) → Option Bound → Type 0
+IfTo P None = Unit {0}
+IfTo P (Some j) = P j
 
 -- "No end moves outwards. An empty interval is dropped."
 pub record Inside (i j : Bound) : Type 0 where
@@ -114,9 +110,9 @@ abbrev pub Among : ℕ → List ℕ → Type 0
 Among k tried = Any (λ t. t ≡ k) tried
 
 -- if a cut is remembered, it is such
-abbrev pub IfCut : (ℕ → Type 0) → Tried → Type 0
-IfCut P Nothing = Unit {0}
-IfCut P (Cut k) = P k
+abbrev pub IfCut : (ℕ → Type 0) → Option ℕ → Type 0
+IfCut P None = Unit {0}
+IfCut P (Some k) = P k
 
 -- every cut that a queued interval remembers has been tried
 abbrev pub Remembers : Type 0
@@ -126,9 +122,9 @@ Remembers =
     All (λ i. IfCut (λ k. Among k s.tried) i.left × IfCut (λ k. Among k s.tried) i.right) s.queue
 
 -- A tried cut that is such, and of all such the extreme one by the order; none if no tried cut is such.
-abbrev pub Extreme : (ℕ → Type 0) → (ℕ → ℕ → Type 0) → List ℕ → Tried → Type 0
-Extreme P below tried Nothing = (k : ℕ) → Among k tried → P k → ⊥
-Extreme P below tried (Cut z) = Among z tried × P z × ((k : ℕ) → Among k tried → P k → below k z)
+abbrev pub Extreme : (ℕ → Type 0) → (ℕ → ℕ → Type 0) → List ℕ → Option ℕ → Type 0
+Extreme P below tried None = (k : ℕ) → Among k tried → P k → ⊥
+Extreme P below tried (Some z) = Among z tried × P z × ((k : ℕ) → Among k tried → P k → below k z)
 
 -- "the highest tried cut with left error 0", "the lowest with right error 0"
 abbrev pub Marks : Type 0

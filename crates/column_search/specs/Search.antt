@@ -1,12 +1,9 @@
 -- For a signer. The search of one column (document 01, "Search"), over the cuts' places and an evaluator that says, of each cut number, the
 -- left and the right error that a try of it finds. Definitions only.
-use Rattle.std.specs.Prelude.{ℕ, zero, suc, ◌+◌, ◌-◌, ◌*◌, ◌/◌, min, ◌&&◌, List, [], ◌∷◌, ◌++◌, length, leb, ltb, eqb}
-use Rattle.std.proofs.Math.Option.{Option, none, some}
+use Rattle.std.specs.Prelude.{ℕ, zero, suc, ◌+◌, ◌-◌, ◌*◌, ◌/◌, min, ◌&&◌, List, [], ◌∷◌, ◌++◌, length, leb, ltb, eqb, Option, Some, None}
+use Rattle.std.proofs.Math.Option.{Option as Maybe, none, some}
 use Rattle.basics.specs.Choice.{pick}
-use Rattle.interval_pruner.specs.declared.Tried.TheVariants.{Nothing, Cut}
 use Rattle.interval_pruner.specs.declared.Bound.{Bound}
-use Rattle.interval_pruner.specs.declared.Shrunk.{Shrunk}
-use Rattle.interval_pruner.specs.declared.Shrunk.TheVariants.{Dropped, To}
 use Rattle.interval_pruner.specs.declared.Zeros.{Zeros}
 use Rattle.interval_pruner.specs.declared.Parts.{Parts}
 use Rattle.interval_pruner.specs.Column.{Column, left_error, right_error, error_of}
@@ -17,7 +14,7 @@ use Rattle.interval_pruner.specs.Pruner.{zeros_after, hopeless, shrunk_of, parts
 pub record State : Type 0 where
   pub queue : List Bound
   pub error : ℕ
-  pub best : Option ℕ
+  pub best : Maybe ℕ
   pub tried : List ℕ
 
 -- "Let B be the smaller of the current error and the upper bound."
@@ -26,7 +23,7 @@ limit bound error = min error bound
 
 -- the highest cut of those tried with left error 0, and the lowest with right error 0
 unfoldable pub zeros_of : Column → List ℕ → Zeros
-zeros_of c [] = record { left = Nothing; right = Nothing }
+zeros_of c [] = record { left = None; right = None }
 zeros_of c (k ∷ tried) = zeros_after (zeros_of c tried) k (left_error c k) (right_error c k)
 
 -- "Try the cut number (left+right)/2, rounded down"
@@ -41,10 +38,10 @@ part i = pick (leb i.first i.last) (i ∷ []) []
 
 -- "The upper remembers the tried cut as its left one, the lower as its right one; the other is handed down."
 abbrev pub upper_part : Bound → ℕ → ℕ → Bound
-upper_part i m from = record { first = from; last = i.last; left = Cut m; right = i.right }
+upper_part i m from = record { first = from; last = i.last; left = Some m; right = i.right }
 
 abbrev pub lower_part : Bound → ℕ → ℕ → Bound
-lower_part i m to = record { first = i.first; last = to; left = i.left; right = Cut m }
+lower_part i m to = record { first = i.first; last = to; left = i.left; right = Some m }
 
 -- "If the interval holds more than one cut, queue the upper part, then the lower"
 unfoldable pub queued : Column → Zeros → ℕ → ℕ → Bound → List Bound
@@ -72,9 +69,9 @@ try_cut c bound s rest i =
 abbrev pub dropped : State → List Bound → State
 dropped s rest = record { queue = rest; error = s.error; best = s.best; tried = s.tried }
 
-unfoldable pub after_shrink : Column → ℕ → State → List Bound → Shrunk → State
-after_shrink c bound s rest Dropped = dropped s rest
-after_shrink c bound s rest (To i) = try_cut c bound s rest i
+unfoldable pub after_shrink : Column → ℕ → State → List Bound → Option Bound → State
+after_shrink c bound s rest None = dropped s rest
+after_shrink c bound s rest (Some i) = try_cut c bound s rest i
 
 -- "For each interval": steps 1 to 5
 unfoldable pub turn_on : Column → ℕ → State → List Bound → State
@@ -98,7 +95,7 @@ turns c bound (suc n) s = turns c bound n (turn c bound s)
 abbrev pub start : ℕ → ℕ → ℕ → State
 start first last error =
     record {
-      queue = record { first = first; last = last; left = Nothing; right = Nothing } ∷ [];
+      queue = record { first = first; last = last; left = None; right = None } ∷ [];
       error = error;
       best = none;
       tried = [];

@@ -1,13 +1,29 @@
 -- The cases of push and pop, by plain facts. Assumes nothing.
-use mathlib.Core.Path.{◌≡◌}
-use Prim.Native.Nat.{ℕ, ◌+◌, ◌-◌, ◌*◌, ◌≤◌, ◌<◌}
+use mathlib.Core.Path.{◌≡◌, refl, sym, ap, ◌∙◌}
+use Prim.Native.Nat.{ℕ, zero, suc, ◌+◌, ◌-◌, ◌*◌, ◌≤◌, ◌<◌}
 use native.Mathlib.Omega.{arith}
 use mathlib.Core.List.{List}
 use lib.Dec.{leb, ltb, eqb, le→leb, lt→ltb}
-use Rattle.basics.proofs.Choice.{pick_true, pick_false, or_left, or_right, nor_both, nleb, nltb, eqb_no, eqb_yes}
+use Rattle.std.specs.Prelude.{Some, None}
+use Rattle.basics.proofs.Choice.{order, pick_true, pick_false, or_left, or_right, nor_both, nleb, nltb, eqb_no, eqb_yes}
 use Rattle.interval_pruner.specs.declared.Bound.{Bound}
 use Rattle.interval_queue.specs.declared.Queue.{Queue}
-use Rattle.interval_queue.specs.Ring.{slots_of, slot_of, stored, loaded, full, empty, empty_bound, pushed, pushed_words, popped}
+use Rattle.interval_queue.specs.declared.Popped.{Popped}
+use Rattle.interval_queue.specs.Ring.{tried_in, slots_of, slot_of, stored, loaded, full, empty, empty_bound, pushed, pushed_words, popped, taken}
+
+-- a word read back as a remembered cut
+pub tried_none : (w : ℕ) → w ≡ 0 → tried_in w ≡ None
+unfolding tried_in
+tried_none zero e = refl
+tried_none (suc k) e = absurd (omega arith)
+
+pub tried_some : (w : ℕ) → 0 < w → tried_in w ≡ Some (w - 1)
+unfolding tried_in
+tried_some zero h = absurd (omega arith)
+tried_some (suc k) h = ap Some (back k)
+  where
+    back : (k : ℕ) → k ≡ suc k - 1
+    back k = omega arith
 
 pub slot_inside : (head k slots : ℕ) → head + k < slots → slot_of head k slots ≡ head + k
 unfolding slot_of
@@ -66,3 +82,32 @@ module _ (words : List ℕ) (q : Queue) where
   pop_some h k =
       pick_false (empty words q) _ _
       (nor_both (leb (slots_of words) q.head) (eqb q.waiting 0) (nleb (slots_of words) q.head h) (eqb_no q.waiting 0 (λ e. omega arith)))
+
+  pub take_out : slots_of words ≤ q.head → taken words q ≡ None
+  unfolding taken
+  take_out h = pick_true (empty words q) _ _ (or_left (leb (slots_of words) q.head) (eqb q.waiting 0) (le→leb (slots_of words) q.head h))
+
+  pub take_none : q.waiting ≡ 0 → taken words q ≡ None
+  unfolding taken
+  take_none h = pick_true (empty words q) _ _ (or_right (leb (slots_of words) q.head) (eqb q.waiting 0) (eqb_yes q.waiting 0 h))
+
+  pub take_some : q.head < slots_of words → 0 < q.waiting → taken words q ≡ Some (popped words q)
+  unfolding taken
+  take_some h k =
+      pick_false (empty words q) _ _
+      (nor_both (leb (slots_of words) q.head) (eqb q.waiting 0) (nleb (slots_of words) q.head h) (eqb_no q.waiting 0 (λ e. omega arith)))
+
+  -- what a taken interval says, and that none is taken
+  pub take_popped : (p : Popped) → taken words q ≡ Some p → (0 < q.waiting) × (p ≡ popped words q)
+  take_popped p e =
+      order q.waiting 0
+      (λ h. let n = sym (take_none (omega arith)) ∙ e in absurd cc)
+      (λ w. order (slots_of words) q.head
+      (λ h. let n = sym (take_out h) ∙ e in absurd cc)
+      (λ h. (w, same (popped words q) p (sym (take_some h w) ∙ e))))
+    where
+      same : (x y : Popped) → Some x ≡ Some y → y ≡ x
+      same x y e = cc
+
+  pub take_all : q.head < slots_of words → taken words q ≡ None → q.waiting ≤ 0
+  take_all h e = order q.waiting 0 (λ l. l) (λ w. let n = sym (take_some h w) ∙ e in absurd cc)

@@ -11,13 +11,12 @@ use lib.Seq.{get_or-set_same, get_or-set_other}
 use Rattle.basics.specs.Lists.{table}
 use Rattle.basics.proofs.Choice.{order}
 use Rattle.basics.proofs.Lists.{table_next, table_same}
-use Rattle.interval_pruner.specs.declared.Tried.{Tried}
-use Rattle.interval_pruner.specs.declared.Tried.TheVariants.{Nothing, Cut}
+use Rattle.std.specs.Prelude.{Option, Some, None}
 use Rattle.interval_pruner.specs.declared.Bound.{Bound}
 use Rattle.interval_queue.specs.declared.Queue.{Queue}
-use Rattle.interval_queue.specs.Ring.{largest_word, word_of, word_of_tried, tried_in, stored, loaded, slots_of, slot_of, contents}
+use Rattle.interval_queue.specs.Ring.{largest_word, word_of, word_of_tried, tried_in, stored, loaded, slots_of, slot_of, contents, popped}
 use Rattle.interval_queue.specs.Laws.{Sane, SmallBound, SmallCut, PushAppends, PopTakesFirst}
-use Rattle.interval_queue.proofs.Cases.{slot_inside, slot_round, push_room, push_room_words, pop_some}
+use Rattle.interval_queue.proofs.Cases.{slot_inside, slot_round, push_room, push_room_words, pop_some, take_some}
 
 -- ---- words
 
@@ -25,17 +24,17 @@ small_word : (n : ℕ) → n ≤ largest_word → word_of n ≡ n
 unfolding word_of
 small_word n h = omega arith
 
-cut_suc : (k w : ℕ) → w ≡ k + 1 → tried_in w ≡ Cut k
+cut_suc : (k w : ℕ) → w ≡ k + 1 → tried_in w ≡ Some k
 unfolding tried_in
 cut_suc k zero e = absurd (omega arith)
-cut_suc k (suc w) e = ap Cut (back w e)
+cut_suc k (suc w) e = ap Some (back w e)
   where
     back : (w : ℕ) → suc w ≡ k + 1 → w ≡ k
     back w e = omega arith
 
-cut_mark : (t : Tried) → SmallCut t → tried_in (word_of_tried t) ≡ t
-cut_mark Nothing h = unfold tried_in word_of_tried in refl
-cut_mark (Cut k) h = unfold word_of_tried in cut_suc k (word_of (k + 1)) (small_word (k + 1) (above k h))
+cut_mark : (t : Option ℕ) → SmallCut t → tried_in (word_of_tried t) ≡ t
+cut_mark None h = unfold tried_in word_of_tried in refl
+cut_mark (Some k) h = unfold word_of_tried in cut_suc k (word_of (k + 1)) (small_word (k + 1) (above k h))
   where
     above : (k : ℕ) → k < largest_word → k + 1 ≤ largest_word
     above k h = omega arith
@@ -43,7 +42,7 @@ cut_mark (Cut k) h = unfold word_of_tried in cut_suc k (word_of (k + 1)) (small_
 fields : (x y : Bound) → x.first ≡ y.first → x.last ≡ y.last → x.left ≡ y.left → x.right ≡ y.right → x ≡ y
 fields x y a b l r =
     ap₂ (λ (f g : ℕ). record { first = f; last = g; left = x.left; right = x.right }) a b
-    ∙ ap₂ (λ (f g : Tried). record { first = y.first; last = y.last; left = f; right = g }) l r
+    ∙ ap₂ (λ (f g : Option ℕ). record { first = y.first; last = y.last; left = f; right = g }) l r
 
 -- ---- an interval stored, and read where it stands and elsewhere
 
@@ -203,9 +202,10 @@ push_appends words q i s room small =
 
 -- ---- pop
 
-pub pop_takes_first : PopTakesFirst
+first_popped : (words : List ℕ) (q : Queue) → Sane words q → 0 < q.waiting
+    → (contents words q ≡ (popped words q).bound ∷ contents words (popped words q).queue) × Sane words (popped words q).queue
 unfolding contents
-pop_takes_first words q s some =
+first_popped words q s some =
     rw (pop_some words q s.head_in some)
     (first q.waiting some s.few, record { head_in = slot_in q.head 1 (slots_of words) s.head_in (omega (arith, s.head_in)); few = omega (arith, s.few) })
   where
@@ -226,3 +226,8 @@ pop_takes_first words q s some =
         (λ k. loaded words (slot_of (slot_of q.head 1 (slots_of words)) k (slots_of words) * 4)) n
         (λ k g. ap (λ (m : ℕ). loaded words (m * 4)) (sym (slot_next q.head k (slots_of words) s.head_in (omega arith))))
         ∙ ap (table (λ k. loaded words (slot_of (slot_of q.head 1 (slots_of words)) k (slots_of words) * 4))) (back n))
+
+pub pop_takes_first : PopTakesFirst
+pop_takes_first words q s some =
+    let p = first_popped words q s some in
+    (take_some words q s.head_in some, p.0, p.1)

@@ -1,20 +1,18 @@
 -- For a signer. A queue in good order, and what push and pop do to the list of intervals that wait. Statements only; `proofs/Waiting.antt`
 -- proves them.
-use Rattle.std.specs.Prelude.{◌≡◌, ℕ, ◌≤◌, ◌<◌, List, [], ◌∷◌, ◌++◌}
-use Rattle.interval_pruner.specs.declared.Tried.{Tried}
-use Rattle.interval_pruner.specs.declared.Tried.TheVariants.{Nothing, Cut}
+use Rattle.std.specs.Prelude.{◌≡◌, ℕ, ◌≤◌, ◌<◌, List, [], ◌∷◌, ◌++◌, Option, Some, None}
 use Rattle.interval_pruner.specs.declared.Bound.{Bound}
 use Rattle.interval_queue.specs.declared.Queue.{Queue}
-use Rattle.interval_queue.specs.Ring.{largest_word, slots_of, contents, pushed, pushed_words, popped}
+use Rattle.interval_queue.specs.Ring.{largest_word, slots_of, contents, pushed, pushed_words, popped, taken}
 
 pub record Sane (words : List ℕ) (q : Queue) : Type 0 where
   pub head_in : q.head < slots_of words
   pub few : q.waiting ≤ slots_of words
 
 -- its numbers fit words
-abbrev pub SmallCut : Tried → Type 0
-SmallCut Nothing = Unit {0}
-SmallCut (Cut k) = k < largest_word
+abbrev pub SmallCut : Option ℕ → Type 0
+SmallCut None = Unit {0}
+SmallCut (Some k) = k < largest_word
 
 pub record SmallBound (i : Bound) : Type 0 where
   pub first : i.first ≤ largest_word
@@ -32,4 +30,6 @@ PushAppends =
 abbrev pub PopTakesFirst : Type 0
 PopTakesFirst =
     (words : List ℕ) (q : Queue) → Sane words q → 0 < q.waiting
-    → (contents words q ≡ (popped words q).bound ∷ contents words (popped words q).queue) × Sane words (popped words q).queue
+    → (taken words q ≡ Some (popped words q))
+    × (contents words q ≡ (popped words q).bound ∷ contents words (popped words q).queue)
+    × Sane words (popped words q).queue

@@ -1,9 +1,7 @@
 -- For a signer. "One interval .. is queued, first in first out": the queue as a ring in lent words, four words an interval. Definitions only.
-use Rattle.std.specs.Prelude.{◌≡◌, ℕ, zero, suc, ◌+◌, ◌-◌, ◌*◌, ◌/◌, min, Bool, ◌||◌, List, length, get_or, set, leb, ltb, eqb}
+use Rattle.std.specs.Prelude.{◌≡◌, ℕ, zero, suc, ◌+◌, ◌-◌, ◌*◌, ◌/◌, min, Bool, ◌||◌, List, length, get_or, set, leb, ltb, eqb, Option, Some, None}
 use Rattle.basics.specs.Choice.{pick}
 use Rattle.basics.specs.Lists.{table}
-use Rattle.interval_pruner.specs.declared.Tried.{Tried}
-use Rattle.interval_pruner.specs.declared.Tried.TheVariants.{Nothing, Cut}
 use Rattle.interval_pruner.specs.declared.Bound.{Bound}
 use Rattle.interval_queue.specs.declared.Queue.{Queue}
 use Rattle.interval_queue.specs.declared.Popped.{Popped}
@@ -17,13 +15,13 @@ unfoldable pub word_of : ℕ → ℕ
 word_of n = min n largest_word
 
 -- a remembered cut: 0 for none, else one more than its number
-unfoldable pub word_of_tried : Tried → ℕ
-word_of_tried Nothing = 0
-word_of_tried (Cut k) = word_of (k + 1)
+unfoldable pub word_of_tried : Option ℕ → ℕ
+word_of_tried None = 0
+word_of_tried (Some k) = word_of (k + 1)
 
-unfoldable pub tried_in : ℕ → Tried
-tried_in zero = Nothing
-tried_in (suc k) = Cut k
+unfoldable pub tried_in : ℕ → Option ℕ
+tried_in zero = None
+tried_in (suc k) = Some k
 
 -- ---- an interval in four words
 
@@ -68,7 +66,7 @@ abbrev pub empty : List ℕ → Queue → Bool
 empty words q = leb (slots_of words) q.head || eqb q.waiting 0
 
 abbrev pub empty_bound : Bound
-empty_bound = record { first = 1; last = 0; left = Nothing; right = Nothing }
+empty_bound = record { first = 1; last = 0; left = None; right = None }
 
 unfoldable pub popped : List ℕ → Queue → Popped
 popped words q =
@@ -78,6 +76,10 @@ popped words q =
       bound = loaded words (q.head * 4);
       queue = record { head = slot_of q.head 1 (slots_of words); waiting = q.waiting - 1 };
     })
+
+-- what is taken off: nothing where none waits
+unfoldable pub taken : List ℕ → Queue → Option Popped
+taken words q = pick (empty words q) None (Some (popped words q))
 
 -- what pushing an interval leaves: the queue, and the lent words
 abbrev pub PushedTo : List ℕ → Queue → Bound → Queue → List ℕ → Type 0

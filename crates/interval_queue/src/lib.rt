@@ -2,10 +2,9 @@
 #![tactic(auto)]
 
 ghost use Rattle.std.specs.Prelude.{◌≡◌, ◌+◌, ◌/◌, ◌<◌, ◌≤◌, length};
-ghost use Rattle.interval_queue.specs.Ring.{slot_of, word_of, word_of_tried, tried_in, stored, loaded, popped, empty_bound, PushedTo};
+ghost use Rattle.interval_queue.specs.Ring.{slot_of, word_of, word_of_tried, tried_in, stored, loaded, taken, PushedTo};
 
-use basics::wide_word;
-use interval_pruner::{Bound, Tried};
+use interval_pruner::Bound;
 
 // Where the first interval stands, and how many wait.
 #[derive(Clone, Copy)]
@@ -30,8 +29,6 @@ const RIGHT: usize = 3;
 
 const WORDS: usize = 4;
 
-const LARGEST_WORD: usize = 0xffff_ffff;
-
 // The ring's slot k places after the head.
 fn slot(head: usize, k: usize, slots: usize) -> usize
     requires { (head < slots) × (k ≤ slots) × (slots ≤ 0xffff_ffff_ffff_ffff / 4) }
@@ -42,65 +39,53 @@ fn slot(head: usize, k: usize, slots: usize) -> usize
 }
 
 // A number as a word. Cut numbers are far below the largest word.
+#[tactic(auto, unfolding(crate::specs::Ring::word_of))]
 fn word(n: usize) -> u32
     ensures { result ≡ word_of n }
 {
-    if n < LARGEST_WORD {
-        n as u32
-    } else {
-        LARGEST_WORD as u32
-    }
+    u32::try_from(n).unwrap_or(u32::MAX)
 }
 
-// A remembered cut as a word: 0 for none, else one more than its number.
-fn mark(tried: Tried) -> u32
+// A remembered cut as a word, since the ring lies in lent words: 0 for none, else one more than its number.
+#[tactic(auto, unfolding(crate::specs::Ring::word_of_tried, crate::specs::Ring::word_of))]
+fn mark(tried: Option<usize>) -> u32
     ensures { result ≡ word_of_tried tried }
 {
     match tried {
-        Tried::Nothing => 0,
-        Tried::Cut(k) => {
-            if k < LARGEST_WORD {
-                word(k + 1)
-            } else {
-                LARGEST_WORD as u32
-            }
-        }
+        None => 0,
+        Some(k) => word(k.saturating_add(1)),
     }
 }
 
-fn cut(word: u32) -> Tried
+// The remembered cut that `mark` keeps as this word.
+#[tactic(auto, using(crate::proofs::Cases::tried_none, crate::proofs::Cases::tried_some))]
+fn cut(word: u32) -> Option<usize>
     ensures { result ≡ tried_in word }
 {
-    if word == 0 {
-        Tried::Nothing
-    } else {
-        Tried::Cut(wide_word(word) - 1)
-    }
+    (word as usize).checked_sub(1)
 }
 
+#[tactic(auto, unfolding(crate::specs::Ring::stored))]
 fn store(words: &mut [u32], at: usize, bound: Bound)
     requires { at + 4 ≤ length words.old }
     ensures { words.new ≡ stored words.old at bound }
 {
-    let left = bound.left;
-    let right = bound.right;
     words[at] = word(bound.first);
     words[at + LAST] = word(bound.last);
-    words[at + LEFT] = mark(left);
-    words[at + RIGHT] = mark(right);
+    words[at + LEFT] = mark(bound.left);
+    words[at + RIGHT] = mark(bound.right);
 }
 
+#[tactic(auto, unfolding(crate::specs::Ring::loaded))]
 fn load(words: &[u32], at: usize) -> Bound
     requires { at + 4 ≤ length words.now }
     ensures { result ≡ loaded words.now at }
 {
-    let left = cut(words[at + LEFT]);
-    let right = cut(words[at + RIGHT]);
     Bound {
-        first: wide_word(words[at]),
-        last: wide_word(words[at + LAST]),
-        left,
-        right,
+        first: words[at] as usize,
+        last: words[at + LAST] as usize,
+        left: cut(words[at + LEFT]),
+        right: cut(words[at + RIGHT]),
     }
 }
 
@@ -109,8 +94,7 @@ pub fn push(words: &mut [u32], queue: Queue, bound: Bound) -> Queue
     ensures { PushedTo words.old queue bound result words.new }
 {
     let slots = words.len() / WORDS;
-    let head = queue.head;
-    let waiting = queue.waiting;
+    let Queue { head, waiting } = queue;
     if slots <= head {
         return queue;
     }
@@ -125,40 +109,20 @@ pub fn push(words: &mut [u32], queue: Queue, bound: Bound) -> Queue
     }
 }
 
-// The first interval off the queue. Where none waits it is an empty interval, and the queue stays as it is.
-pub fn pop(words: &[u32], queue: Queue) -> Popped
-    ensures { result ≡ popped words.now queue }
+// The first interval off the queue; none where none waits.
+pub fn pop(words: &[u32], queue: Queue) -> Option<Popped>
+    ensures { result ≡ taken words.now queue }
 {
     let slots = words.len() / WORDS;
-    let head = queue.head;
-    let waiting = queue.waiting;
+    let Queue { head, waiting } = queue;
     if slots <= head {
-        return none(queue);
+        return None;
     }
-    if waiting == 0 {
-        return none(queue);
-    }
+    let waiting = waiting.checked_sub(1)?;
     let bound = load(words, head * WORDS);
-    let next = slot(head, 1, slots);
-    Popped {
+    let head = slot(head, 1, slots);
+    Some(Popped {
         bound,
-        queue: Queue {
-            head: next,
-            waiting: waiting - 1,
-        },
-    }
-}
-
-fn none(queue: Queue) -> Popped
-    ensures { result ≡ record { bound = empty_bound; queue = queue } }
-{
-    Popped {
-        bound: Bound {
-            first: 1,
-            last: 0,
-            left: Tried::Nothing,
-            right: Tried::Nothing,
-        },
-        queue,
-    }
+        queue: Queue { head, waiting },
+    })
 }
