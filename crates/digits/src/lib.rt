@@ -17,6 +17,7 @@ pub const HEX_PLACES: usize = 16;
 // What stands for a NaN, which has no bits of its own.
 const NAN_BITS: u64 = 0x7FF8_0000_0000_0000;
 
+#[tactic(auto, unfolding(crate::specs::Digits::digit_of, basics::specs::Choice::pick))]
 fn digit(d: u64) -> u8
     requires { d < 16 }
     ensures { result ≡ digit_of d }
@@ -29,6 +30,7 @@ fn digit(d: u64) -> u8
 }
 
 // How many decimal digits n has.
+#[tactic(auto, using(crate::proofs::Decimal::places_by))]
 fn places(n: u64) -> usize
     ensures { result ≡ digits_in n }
 {
@@ -43,6 +45,7 @@ pub struct Text<'a> {
 }
 
 impl Text<'_> {
+    #[tactic(auto, using(crate::proofs::Puts::copied))]
     pub fn put_bytes(&mut self, bytes: &[u8])
         requires { HasRoom self.old (length bytes.now) }
         ensures same_memory { SameMemory self.old self.new }
@@ -67,6 +70,7 @@ impl Text<'_> {
         self.at += count;
     }
 
+    #[tactic(auto, using(crate::proofs::Puts::length_digits, crate::proofs::Decimal::places_most), unfolding(crate::specs::Digits::decimal_of))]
     pub fn put_decimal(&mut self, n: u64)
         requires { HasRoom self.old most_places }
         ensures same_memory { SameMemory self.old self.new }
@@ -75,6 +79,7 @@ impl Text<'_> {
         self.put_digits(DECIMAL, places(n), n);
     }
 
+    #[tactic(auto, using(crate::proofs::Puts::length_digits), unfolding(crate::specs::Digits::hex_of))]
     pub fn put_hex(&mut self, bits: u64)
         requires { HasRoom self.old hex_places }
         ensures same_memory { SameMemory self.old self.new }

@@ -27,6 +27,7 @@ fn put_field(text: &mut Text, word: &[u8], n: u64)
     text.put_decimal(n);
 }
 
+#[tactic(auto, using(digits::proofs::Puts::joined), unfolding(crate::specs::Listing::spot_of))]
 fn put_threshold(text: &mut Text, threshold: f64)
     requires { HasRoom text.old spot_length }
     ensures same_memory { SameMemory text.old text.new }
@@ -72,6 +73,7 @@ fn put_line(text: &mut Text, one: &[u8], m: u64, two: &[u8], n: u64)
 }
 
 // Past a leaf's mark.
+#[tactic(auto, unfolding(crate::specs::Listing::leaf_of))]
 fn put_leaf(text: &mut Text, leaf: Leaf)
     requires { HasRoom text.old most_leaf }
     ensures same_memory { SameMemory text.old text.new }
@@ -100,6 +102,7 @@ fn put_split(text: &mut Text, question: Question, left: Leaf, right: Leaf)
     text.put_bytes(b"\n");
 }
 
+#[tactic(auto, using(digits::proofs::Puts::joined), unfolding(crate::specs::Listing::side_line))]
 fn put_side(text: &mut Text, mark: u8, side: Side)
     requires { HasRoom text.old most_side }
     ensures same_memory { SameMemory text.old text.new }
@@ -140,6 +143,7 @@ fn put_rule(text: &mut Text, tree: Tree, tried: u32)
     put_side(text, RIGHT_MARK, tree.right);
 }
 
+#[tactic(auto, unfolding(crate::specs::Listing::listing_of, crate::specs::Listing::refused_of, crate::specs::Listing::kept_of))]
 fn put_answer(text: &mut Text, answer: Answer)
     requires { HasRoom text.old longest }
     ensures same_memory { SameMemory text.old text.new }
