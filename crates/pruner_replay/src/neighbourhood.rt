@@ -1,9 +1,11 @@
 // Every case of step 5, and of the record of a try, that a small list has, asked of ours: oracle/recorded/README.md says which, and in which order.
-use crate::code::{CUTS, NONE, number_of, wide};
+use crate::code;
+use crate::code::{NONE, number_of};
 use crate::tally::Tally;
-use crate::{code, tally};
+use interval_pruner::neighbourhood_pruning::neighbourhood_pruning;
 use interval_pruner::{Bound, Zeros};
 
+const CUTS: u32 = 8;
 // Gaps 0 to 4.
 const GAPS: u32 = 5;
 // What two errors up to 3 can have above a best.
@@ -20,44 +22,30 @@ fn start_of(upper: usize, last: usize) -> usize {
 }
 
 // The gap and the difference serve as the two errors of a try as well, since they take all values up to 3.
-fn parts(cuts: &[u16], bound: Bound, zeros: Zeros, term: u32) -> usize {
-    let cut = wide(term % CUTS);
+fn answer(cuts: &[u16], bound: Bound, cut: usize, term: u32) -> usize {
+    let zeros = Zeros {
+        left: bound.left,
+        right: bound.right,
+    };
     let gap = term / CUTS % GAPS;
     let excess = term / CUTS / GAPS % DIFFERENCES;
     let small = term < SMALL_TERMS;
-    let first = bound.first;
-    let found = interval_pruner::neighbourhood_pruning::neighbourhood_pruning(
-        cuts, zeros, gap, excess, first, cut, small,
-    );
+    let found = neighbourhood_pruning(cuts, zeros, gap, excess, bound.first, cut, small);
     let start = start_of(found.upper, bound.last);
     let mut table = [0u32; 16];
     let after = interval_pruner::add_result(&mut table, zeros, cut, gap, excess);
-    let left = after.left;
-    let right = after.right;
-    start | (found.lower << 8) | (number_of(left) << 16) | (number_of(right) << 24)
+    start | (found.lower << 8) | (number_of(after.left) << 16) | (number_of(after.right) << 24)
 }
 
-fn every_term(cuts: &[u16], bound: Bound, tally: Tally) -> Tally {
-    let left = bound.left;
-    let right = bound.right;
-    let zeros = Zeros { left, right };
-    let mut all = tally;
-    let mut term: u32 = 0;
-    while term < TERMS {
-        let cut = wide(term % CUTS);
+// The interval's two cuts are the marks, which need not fit what was tried.
+pub fn of_bound(cuts: &[u16], bound: Bound, tally: &mut Tally) {
+    if !code::listed(bound, cuts.len(), cuts.len(), 0) {
+        return;
+    }
+    for term in 0..TERMS {
+        let cut = (term % CUTS) as usize;
         if bound.first <= cut && cut <= bound.last {
-            all = tally::told(all, parts(cuts, bound, zeros, term));
+            tally.tell(answer(cuts, bound, cut, term));
         }
-        term += 1;
     }
-    all
-}
-
-// The two cuts are the marks, which need not fit what was tried.
-pub fn of_bound(cuts: &[u16], bound: Bound, tally: Tally) -> Tally {
-    let count = cuts.len();
-    if code::listed(bound, count, count, 0) {
-        return every_term(cuts, bound, tally);
-    }
-    tally
 }

@@ -1,8 +1,10 @@
 // Every case of steps 1 and 2 that a small list has, asked of ours: oracle/recorded/README.md says which, and in which order.
-use crate::code::{NONE, number_of};
+use crate::code;
+use crate::code::{MARKINGS, number_of};
 use crate::tally::Tally;
-use crate::{code, tally};
-use interval_pruner::{Bound, Shrunk, Tried, Zeros};
+use interval_pruner::interval_shrinking::interval_shrinking;
+use interval_pruner::subinterval_pruning::subinterval_pruning;
+use interval_pruner::{Bound, Zeros, add_result};
 
 // Gaps 0 to 4, and bests too.
 const LEVELS: u32 = 5;
@@ -23,113 +25,124 @@ const KEPT: usize = 1;
 
 const HOPELESS: usize = 2;
 
-fn number_of_shrunk(after: Shrunk) -> usize {
-    match after {
-        Shrunk::Dropped => 0,
-        Shrunk::To(bound) => KEPT | (bound.first << 8) | (bound.last << 16),
+// An interval of a list, and what was tried: the errors, and the marks.
+#[derive(Clone, Copy)]
+struct Tries<'a> {
+    cuts: &'a [u16],
+    table: &'a [u32],
+    zeros: Zeros,
+    bound: Bound,
+}
+
+impl Tries<'_> {
+    fn answer(&self, term: u32) -> usize {
+        let gap = term % LEVELS;
+        let best = term / LEVELS % LEVELS;
+        let small = term < SMALL_TERMS;
+        let after = interval_shrinking(
+            self.cuts, self.table, self.zeros, self.bound, gap, best, small,
+        );
+        let shrunk = match after {
+            None => 0,
+            Some(bound) => KEPT | (bound.first << 8) | (bound.last << 16),
+        };
+        if subinterval_pruning(self.table, self.bound, gap, best, small) {
+            shrunk | HOPELESS
+        } else {
+            shrunk
+        }
+    }
+
+    fn tell_every_term(&self, tally: &mut Tally) {
+        for term in 0..TERMS {
+            tally.tell(self.answer(term));
+        }
     }
 }
 
-fn pruned(cuts: &[u16], table: &[u32], zeros: Zeros, bound: Bound, term: u32) -> usize {
-    let gap = term % LEVELS;
-    let best = term / LEVELS % LEVELS;
-    let small = term < SMALL_TERMS;
-    let after = interval_pruner::interval_shrinking::interval_shrinking(
-        cuts, table, zeros, bound, gap, best, small,
-    );
-    let shrunk = number_of_shrunk(after);
-    if interval_pruner::subinterval_pruning::subinterval_pruning(table, bound, gap, best, small) {
-        return shrunk | HOPELESS;
-    }
-    shrunk
+const UNMARKED: Zeros = Zeros {
+    left: None,
+    right: None,
+};
+
+// Of no cut there are no errors.
+fn has_errors(cut: Option<usize>, pair: u32) -> bool {
+    cut.is_some() || pair == LAST_PAIR
 }
 
-fn every_term(cuts: &[u16], table: &[u32], zeros: Zeros, bound: Bound, tally: Tally) -> Tally {
-    let mut all = tally;
-    let mut term: u32 = 0;
-    while term < TERMS {
-        all = tally::told(all, pruned(cuts, table, zeros, bound, term));
-        term += 1;
-    }
-    all
-}
-
-fn has_errors(bound: Bound, errors: u32) -> bool {
-    let left = bound.left;
-    let right = bound.right;
-    code::lies(left, 0, NONE, errors / PAIRS == LAST_PAIR)
-        && code::lies(right, 0, NONE, errors % PAIRS == LAST_PAIR)
-}
-
-fn unmarked() -> Zeros {
-    Zeros {
-        left: Tried::Nothing,
-        right: Tried::Nothing,
-    }
-}
-
-// With the marks that the errors set, and with none.
-fn set_and_none(cuts: &[u16], table: &[u32], set: Zeros, bound: Bound, tally: Tally) -> Tally {
-    let all = every_term(cuts, table, set, bound, tally);
-    every_term(cuts, table, unmarked(), bound, all)
-}
-
-// No cut is past the table, so that nothing is stored of it.
-fn with_errors(cuts: &[u16], bound: Bound, errors: u32, tally: Tally) -> Tally {
-    let left = bound.left;
-    let right = bound.right;
+// With the marks that the errors set, and with none. No cut is past the table, so that nothing is stored of it.
+fn tell_with_errors(
+    cuts: &[u16],
+    bound: Bound,
+    left_pair: u32,
+    right_pair: u32,
+    tally: &mut Tally,
+) {
     let mut table = [0u32; 16];
-    let once = interval_pruner::add_result(
+    let left = number_of(bound.left);
+    let once = add_result(
         &mut table,
-        unmarked(),
-        number_of(left),
-        errors / PAIRS / ERRORS,
-        errors / PAIRS % ERRORS,
+        UNMARKED,
+        left,
+        left_pair / ERRORS,
+        left_pair % ERRORS,
     );
-    let set = interval_pruner::add_result(
+    let right = number_of(bound.right);
+    let zeros = add_result(
         &mut table,
         once,
-        number_of(right),
-        errors / ERRORS % ERRORS,
-        errors % ERRORS,
+        right,
+        right_pair / ERRORS,
+        right_pair % ERRORS,
     );
-    set_and_none(cuts, &table, set, bound, tally)
+    let tries = Tries {
+        cuts,
+        table: &table,
+        zeros,
+        bound,
+    };
+    tries.tell_every_term(tally);
+    Tries {
+        zeros: UNMARKED,
+        ..tries
+    }
+    .tell_every_term(tally);
 }
 
-fn every_error(cuts: &[u16], bound: Bound, tally: Tally) -> Tally {
-    let mut all = tally;
-    let mut errors: u32 = 0;
-    while errors < FOURS {
-        if has_errors(bound, errors) {
-            all = with_errors(cuts, bound, errors, all);
+fn tell_every_error(cuts: &[u16], bound: Bound, tally: &mut Tally) {
+    for errors in 0..FOURS {
+        let left_pair = errors / PAIRS;
+        let right_pair = errors % PAIRS;
+        if has_errors(bound.left, left_pair) && has_errors(bound.right, right_pair) {
+            tell_with_errors(cuts, bound, left_pair, right_pair, tally);
         }
-        errors += 1;
     }
-    all
 }
 
 // Marks need not fit the errors, which are 0 here: with all errors they would be too many.
-fn every_marking(cuts: &[u16], bound: Bound, tally: Tally) -> Tally {
-    let table = [0u32; 16];
-    let count = cuts.len();
-    let mut all = tally;
-    let mut code: u32 = 1;
-    while code < code::MARKINGS {
+fn tell_every_marking(cuts: &[u16], bound: Bound, tally: &mut Tally) {
+    for code in 1..MARKINGS {
         let marks = code::bound_of(code);
-        if code::listed(marks, count, count, 0) {
-            let left = marks.left;
-            let right = marks.right;
-            all = every_term(cuts, &table, Zeros { left, right }, bound, all);
+        if code::listed(marks, cuts.len(), cuts.len(), 0) {
+            let zeros = Zeros {
+                left: marks.left,
+                right: marks.right,
+            };
+            let tries = Tries {
+                cuts,
+                table: &[0; 16],
+                zeros,
+                bound,
+            };
+            tries.tell_every_term(tally);
         }
-        code += 1;
     }
-    all
 }
 
 // A search remembers a tried cut below the interval on its left, and one that is not below its last on its right.
-pub fn of_bound(cuts: &[u16], bound: Bound, tally: Tally) -> Tally {
+pub fn of_bound(cuts: &[u16], bound: Bound, tally: &mut Tally) {
     if code::listed(bound, cuts.len(), bound.first, bound.last) {
-        return every_marking(cuts, bound, every_error(cuts, bound, tally));
+        tell_every_error(cuts, bound, tally);
+        tell_every_marking(cuts, bound, tally);
     }
-    tally
 }
