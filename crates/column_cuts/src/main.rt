@@ -4,28 +4,18 @@
 
 use digits::HEX_PLACES;
 use std::io;
-
-fn print_cut(rt: &impl Print, ratios: &[f64], at: usize, lower: f64, upper: f64) -> io::Result<()> {
-    let threshold = threshold::threshold_between(lower, upper);
-    rt.write_all(b"cut place=")?;
-    rt.print(at)?;
-    rt.write_all(b" at=")?;
-    let bits = digits::bits_of(threshold);
-    print!(rt; "{bits:0HEX_PLACES$x}")?;
-    rt.write_all(b" left=")?;
-    rt.print(threshold::parting::left_of_cut(ratios, at))?;
-    rt.write_all(b"\n")
-}
+use threshold::parting::left_of_cut;
+use threshold::threshold_between;
 
 fn print_cuts(rt: &impl Print, ratios: &[f64]) -> io::Result<()> {
-    let mut at: usize = 1;
-    while at < ratios.len() {
+    for at in 1..ratios.len() {
         let lower = ratios[at - 1];
         let upper = ratios[at];
         if lower < upper {
-            print_cut(rt, ratios, at, lower, upper)?;
+            let bits = digits::bits_of(threshold_between(lower, upper));
+            let left = left_of_cut(ratios, at);
+            println!(rt; "cut place={at} at={bits:0HEX_PLACES$x} left={left}")?;
         }
-        at += 1;
     }
     Ok(())
 }
