@@ -7,9 +7,8 @@ use Rattle.basics.specs.Choice.{pick}
 use Rattle.sheet.specs.Sheet.{Sheet, value_of, label_of, row_at, order_of}
 use Rattle.sheet.specs.Sound.{Sound}
 use Rattle.sheet.specs.Rows.{rows_at}
-use Rattle.leaves_score.specs.declared.two_sides.Two.{Two}
 use Rattle.side_scan.specs.OneSide.{restarted, side_of}
-use Rattle.leaves_score.specs.Column.{labelled, own_of, side_at_start, step_both, ended, scan_rows, scan_column}
+use Rattle.leaves_score.specs.Column.{Two, labelled, own_of, side_at_start, step_both, ended, scan_rows, scan_column}
 use Rattle.leaves_score.specs.Scan.{perfect, scan_columns, start_both, scanned, sides_of}
 use Rattle.leaves_score.specs.Lists.{scan_of, Lent, Scannable}
 

@@ -1,14 +1,14 @@
 -- A column's rows one after another, the sides' records by the side's number: a row moves its own side on and leaves the other where it stands, and the
 -- early end is asked after it. So the rows leave what the definition says. Assumes nothing.
-use Prim.Native.Nat.{ℕ, zero, suc, ◌+◌, ◌-◌, ◌≤◌, ◌<◌}
+use Prim.Native.Nat.{ℕ, zero, suc, ◌+◌, ◌-◌, ◌*◌, ◌≤◌, ◌<◌}
 use native.Mathlib.Omega.{arith}
 use native.Mathlib.Numerals.{add-one}
 use mathlib.Core.Path.{◌≡◌, refl, sym, ap, ap₂, subst, ◌∙◌}
-use mathlib.Core.Bool.{Bool, true, false, not, ◌||◌}
+use mathlib.Core.Bool.{Bool, true, false, not, ◌&&◌, ◌||◌}
 use mathlib.Core.List.{List, ◌∷◌}
-use lib.ListN.{length, get_or, set, length-set}
-use lib.Seq.{get_or-set_same, get_or-set_other}
+use lib.ListN.{length, get_or, set}
 use lib.Dec.{T, leb, eqb, eqb→eq, leb→le}
+use lib.Ieee.{Float, nan}
 use Rattle.basics.specs.Choice.{pick}
 use Rattle.basics.specs.Lists.{those}
 use Rattle.basics.proofs.Choice.{decide, neqb, same_bool, pick_true, pick_false}
@@ -16,28 +16,16 @@ use Rattle.basics.proofs.Lists.{tally_le}
 use Rattle.sheet.specs.Limits.{most_rows}
 use Rattle.sheet.specs.Sheet.{Sheet, value_of, label_of, row_at}
 use Rattle.side_scan.specs.declared.SideScan.{SideScan}
-use Rattle.side_scan.specs.OneSide.{restarted, rows_left, count_row, only_counted, scored}
-use Rattle.side_scan.specs.Step.{Ready}
-use Rattle.leaves_score.specs.declared.two_sides.Two.{Two}
-use Rattle.leaves_score.specs.Column.{other, row_step, step_both, idle, ended, scan_rows, scan_column}
+use Rattle.side_scan.specs.OneSide.{restarted, rows_left, count_row, only_counted, scored, step_of}
+use Rattle.side_scan.specs.Step.{Ready, Steppable}
+use Rattle.leaves_score.specs.Column.{Two, other, row_step, step_both, idle, ended, scan_rows, scan_column}
 use Rattle.leaves_score.specs.Kept.{rows_to_come, Fits, Live}
 use Rattle.leaves_score.specs.Lists.{go_left}
-use Rattle.leaves_score.specs.SideLists.{side_at, both_at, ReadyColumn}
+use Rattle.leaves_score.specs.SideLists.{no_side, side_at, both_of, Within, ReadyColumn}
 use Rattle.leaves_score.proofs.Counts.{later_is}
 use Rattle.leaves_score.proofs.Live.{step_any, step_open, step_closed, live_step}
 use Rattle.leaves_score.proofs.Coupled.{ended_left, ended_right}
-use Rattle.leaves_score.proofs.Rows.{by_two, left_number, right_number}
-
--- ---- a list by the side's number, of which one place changes
-
-pub record Changed {A : Type 0} (xs ys : List A) (side : ℕ) (y d : A) : Type 0 where
-  pub two : length ys ≡ 2
-  pub at : get_or ys side d ≡ y
-  pub elsewhere : (k : ℕ) → (k ≡ side → ⊥) → get_or ys k d ≡ get_or xs k d
-
-pub set_at : {A : Type 0} (xs : List A) (side : ℕ) (y d : A) → length xs ≡ 2 → side < 2 → Changed xs (set xs side y) side y d
-set_at xs side y d h l =
-    record { two = length-set xs side y ∙ h; at = get_or-set_same xs side y d (omega arith); elsewhere = λ k n. get_or-set_other xs side k y d n }
+use Rattle.leaves_score.proofs.Rows.{by_two, left_number, right_number, Changed, set_at}
 
 -- ---- the rows of a side
 
@@ -86,14 +74,17 @@ module _ (s : Sheet) (r : ℕ) (rs : List ℕ) (t : SideScan) (h : SideKept s (r
   can_take e k =
       let f : Fits s (r ∷ rs) t = fits e in
       record {
-        some = f.some;
-        few = f.most;
+        cut =
+            record {
+              some = f.some;
+              few = f.most;
+              more = omega (arith, f.rows);
+              small = h.small;
+              own = λ l m. omega (arith, f.sums l m);
+              seen = f.few;
+              left = λ l m. omega (arith, later_is s (r ∷ rs) t f l m, tally_le (λ r. eqb (label_of s r) l) (r ∷ rs), f.rows);
+            };
         coded = omega (arith, h.labels, k);
-        more = omega (arith, f.rows);
-        small = h.small;
-        own = λ l m. omega (arith, f.sums l m);
-        seen = f.few;
-        left = λ l m. omega (arith, later_is s (r ∷ rs) t f l m, tally_le (λ r. eqb (label_of s r) l) (r ∷ rs), f.rows);
       }
 
   kept_step : (c : ℕ) → SideKept s rs (row_step s c r t)
@@ -136,74 +127,77 @@ module _ (s : Sheet) (marks : List ℕ) (c : ℕ) where
         ∙ those_no (mine marks k) (row_at s c i) (rows_to_come s c (s.rows - (i + 1)) (i + 1)) (mine_other marks (row_at s c i) k side l in_two side_is n)
 
   module _ (target : Two) where
-    pub record Along (i : ℕ) (scan : List SideScan) (seen : List (List ℕ)) : Type 0 where
+    pub record Along (i : ℕ) (sides : List SideScan) : Type 0 where
       pub within : i ≤ s.rows
-      pub two : length scan ≡ 2
-      pub two_seen : length seen ≡ 2
-      pub same : scan_rows s (go_left marks) c (s.rows - i) i (both_at scan seen) ≡ target
-      pub going : ended (both_at scan seen) ≡ false
-      pub each : (k : ℕ) → k < 2 → SideKept s (to_come k i) (side_at scan seen k)
+      pub two : length sides ≡ 2
+      pub same : scan_rows s (go_left marks) c (s.rows - i) i (both_of sides) ≡ target
+      pub going : ended (both_of sides) ≡ false
+      pub each : (k : ℕ) → k < 2 → SideKept s (to_come k i) (side_at sides k)
 
-    module _ (i : ℕ) (scan : List SideScan) (seen : List (List ℕ)) (h : Along i scan seen) where
+    module _ (i : ℕ) (sides : List SideScan) (h : Along i sides) where
       -- no row is left
-      pub finished : s.rows ≤ i → both_at scan seen ≡ target
-      finished n = sym nothing ∙ ap (λ (n : ℕ). scan_rows s (go_left marks) c n i (both_at scan seen)) (sym none) ∙ h.same
+      pub finished : s.rows ≤ i → both_of sides ≡ target
+      finished n = sym nothing ∙ ap (λ (n : ℕ). scan_rows s (go_left marks) c n i (both_of sides)) (sym none) ∙ h.same
         where
           none : s.rows - i ≡ 0
           none = omega arith
 
-          nothing : scan_rows s (go_left marks) c 0 i (both_at scan seen) ≡ both_at scan seen
+          nothing : scan_rows s (go_left marks) c 0 i (both_of sides) ≡ both_of sides
           nothing = unfold scan_rows in refl
 
       module _ (more : i < s.rows) (side : ℕ) (in_two : side < 2) (side_is : get_or marks (row_at s c i) 0 ≡ side) where
         abbrev row : ℕ
         row = row_at s c i
 
-        pub here : SideKept s (row ∷ to_come side (i + 1)) (side_at scan seen side)
-        here = subst (λ (rs : List ℕ). SideKept s rs (side_at scan seen side)) (own_rows i more side in_two side_is) (h.each side in_two)
+        pub here : SideKept s (row ∷ to_come side (i + 1)) (side_at sides side)
+        here = subst (λ (rs : List ℕ). SideKept s rs (side_at sides side)) (own_rows i more side in_two side_is) (h.each side in_two)
 
         -- the row's side has moved on, the other is where it was
-        pub record Moved (scan' : List SideScan) (seen' : List (List ℕ)) : Type 0 where
-          pub two : length scan' ≡ 2
-          pub two_seen : length seen' ≡ 2
-          pub at : side_at scan' seen' side ≡ row_step s c row (side_at scan seen side)
-          pub elsewhere : (k : ℕ) → (k ≡ side → ⊥) → side_at scan' seen' k ≡ side_at scan seen k
+        pub record Moved (sides' : List SideScan) : Type 0 where
+          pub two : length sides' ≡ 2
+          pub at : side_at sides' side ≡ row_step s c row (side_at sides side)
+          pub elsewhere : (k : ℕ) → (k ≡ side → ⊥) → side_at sides' k ≡ side_at sides k
 
-        module _ (scan' : List SideScan) (seen' : List (List ℕ)) (m : Moved scan' seen') where
+        pub moved : (next : SideScan) → next ≡ row_step s c row (side_at sides side) → Moved (set sides side next)
+        moved next e =
+            let g = set_at sides side next no_side h.two in_two in
+            record { two = g.two; at = g.at ∙ e; elsewhere = g.elsewhere }
+
+        module _ (sides' : List SideScan) (m : Moved sides') where
           abbrev now : Two
-          now = both_at scan' seen'
+          now = both_of sides'
 
-          stepped : step_both s (go_left marks) c row (both_at scan seen) ≡ now
+          stepped : step_both s (go_left marks) c row (both_of sides) ≡ now
           unfolding step_both
           stepped =
-              by_two (λ k. side ≡ k → step_both s (go_left marks) c row (both_at scan seen) ≡ now) side in_two
+              by_two (λ k. side ≡ k → step_both s (go_left marks) c row (both_of sides) ≡ now) side in_two
               (λ e. pick_true (go_left marks row) _ _ (subst T (sym (left_number marks row (side_is ∙ e))) tt)
               ∙ ap₂ (λ (l r : SideScan). record { left = l; right = r }) (sym (itself 0 e)) (sym (m.elsewhere 1 (λ k. absurd (omega (arith, e, k))))))
               (λ e. pick_false (go_left marks row) _ _ (subst (λ (b : Bool). T (not b)) (sym (right_number marks row (side_is ∙ e))) tt)
               ∙ ap₂ (λ (l r : SideScan). record { left = l; right = r }) (sym (m.elsewhere 0 (λ k. absurd (omega (arith, e, k))))) (sym (itself 1 e)))
               refl
             where
-              itself : (k : ℕ) → side ≡ k → side_at scan' seen' k ≡ row_step s c row (side_at scan seen k)
-              itself k e = subst (λ (k : ℕ). side_at scan' seen' k ≡ row_step s c row (side_at scan seen k)) e m.at
+              itself : (k : ℕ) → side ≡ k → side_at sides' k ≡ row_step s c row (side_at sides k)
+              itself k e = subst (λ (k : ℕ). side_at sides' k ≡ row_step s c row (side_at sides k)) e m.at
 
           abbrev rest : Two → Two
           rest b = scan_rows s (go_left marks) c (s.rows - (i + 1)) (i + 1) b
 
           -- the definition's turn at this row
           turn : pick (ended now) now (rest now) ≡ target
-          turn = ap (λ (b : Two). pick (ended b) b (rest b)) (sym stepped) ∙ sym unrolled ∙ ap (λ (n : ℕ). scan_rows s (go_left marks) c n i (both_at scan seen)) (sym (one_more i more side in_two side_is)) ∙ h.same
+          turn = ap (λ (b : Two). pick (ended b) b (rest b)) (sym stepped) ∙ sym unrolled ∙ ap (λ (n : ℕ). scan_rows s (go_left marks) c n i (both_of sides)) (sym (one_more i more side in_two side_is)) ∙ h.same
             where
-              unrolled : scan_rows s (go_left marks) c (suc (s.rows - (i + 1))) i (both_at scan seen)
-                  ≡ pick (ended (step_both s (go_left marks) c row (both_at scan seen))) (step_both s (go_left marks) c row (both_at scan seen)) (rest (step_both s (go_left marks) c row (both_at scan seen)))
+              unrolled : scan_rows s (go_left marks) c (suc (s.rows - (i + 1))) i (both_of sides)
+                  ≡ pick (ended (step_both s (go_left marks) c row (both_of sides))) (step_both s (go_left marks) c row (both_of sides)) (rest (step_both s (go_left marks) c row (both_of sides)))
               unrolled = unfold scan_rows in rw add-one
 
-          pub each_next : (k : ℕ) → k < 2 → SideKept s (to_come k (i + 1)) (side_at scan' seen' k)
+          pub each_next : (k : ℕ) → k < 2 → SideKept s (to_come k (i + 1)) (side_at sides' k)
           each_next k l = decide (eqb k side) (λ t. itself k (eqb→eq k side t)) (λ t. another k l (neqb k side t))
             where
-              itself : (k : ℕ) → k ≡ side → SideKept s (to_come k (i + 1)) (side_at scan' seen' k)
-              itself k e = rw (e, m.at) (kept_step s row (to_come side (i + 1)) (side_at scan seen side) here c)
+              itself : (k : ℕ) → k ≡ side → SideKept s (to_come k (i + 1)) (side_at sides' k)
+              itself k e = rw (e, m.at) (kept_step s row (to_come side (i + 1)) (side_at sides side) here c)
 
-              another : (k : ℕ) → k < 2 → (k ≡ side → ⊥) → SideKept s (to_come k (i + 1)) (side_at scan' seen' k)
+              another : (k : ℕ) → k < 2 → (k ≡ side → ⊥) → SideKept s (to_come k (i + 1)) (side_at sides' k)
               another k l e = rw (m.elsewhere k e, ← other_rows i more side in_two side_is k l e) (h.each k l)
 
           -- the column ends
@@ -211,43 +205,41 @@ module _ (s : Sheet) (marks : List ℕ) (c : ℕ) where
           over e = sym (pick_true (ended now) now (rest now) (subst T (sym e) tt)) ∙ turn
 
           -- or goes on
-          pub on : ended now ≡ false → Along (i + 1) scan' seen'
+          pub on : ended now ≡ false → Along (i + 1) sides'
           on e =
               record {
                 within = omega arith;
                 two = m.two;
-                two_seen = m.two_seen;
                 same = sym (pick_false (ended now) now (rest now) (subst (λ (b : Bool). T (not b)) (sym e) tt)) ∙ turn;
                 going = e;
                 each = each_next;
               }
 
           -- it does if the row's side is open and its skip short
-          pub not_ended : ((side_at scan' seen' side).closed || idle (side_at scan' seen' side)) ≡ false → ended now ≡ false
+          pub not_ended : ((side_at sides' side).closed || idle (side_at sides' side)) ≡ false → ended now ≡ false
           not_ended e =
-              by_two (λ k. ((side_at scan' seen' k).closed || idle (side_at scan' seen' k)) ≡ false → ended now ≡ false) side in_two
+              by_two (λ k. ((side_at sides' k).closed || idle (side_at sides' k)) ≡ false → ended now ≡ false) side in_two
               (λ e. same_bool (ended now) false (λ t. subst T e (ended_left now t)) (λ t. absurd t))
               (λ e. same_bool (ended now) false (λ t. subst T e (ended_right now t)) (λ t. absurd t)) e
 
         -- a row of a closed side changes nothing
-        pub stays : (side_at scan seen side).closed ≡ true → Along (i + 1) scan seen
+        pub stays : (side_at sides side).closed ≡ true → Along (i + 1) sides
         stays e =
-            on scan seen
+            on sides
             (record {
               two = h.two;
-              two_seen = h.two_seen;
-              at = sym (step_closed (side_at scan seen side) c (label_of s row) (value_of s c row) (subst T (sym e) tt));
+              at = sym (step_closed (side_at sides side) c (label_of s row) (value_of s c row) (subst T (sym e) tt));
               elsewhere = λ k n. refl;
             }) h.going
 
 -- ---- from a column's start
 
-module _ (s : Sheet) (marks : List ℕ) (c : ℕ) (b : Two) (h : ReadyColumn s marks c b) (scan : List SideScan) (seen : List (List ℕ))
-    (left_is : side_at scan seen 0 ≡ restarted b.left) (right_is : side_at scan seen 1 ≡ restarted b.right) where
-  kept : (k : ℕ) → k < 2 → SideKept s (to_come s marks c k 0) (side_at scan seen k)
+module _ (s : Sheet) (marks : List ℕ) (c : ℕ) (b : Two) (h : ReadyColumn s marks c b) (sides : List SideScan)
+    (left_is : side_at sides 0 ≡ restarted b.left) (right_is : side_at sides 1 ≡ restarted b.right) where
+  kept : (k : ℕ) → k < 2 → SideKept s (to_come s marks c k 0) (side_at sides k)
   unfolding restarted
   kept k l =
-      by_two (λ k. SideKept s (to_come s marks c k 0) (side_at scan seen k)) k l
+      by_two (λ k. SideKept s (to_come s marks c k 0) (side_at sides k)) k l
       (rw (left_is, all) (record { live = h.left_live; labels = h.left_labels; small = h.left_small; within = omega arith }))
       (rw (right_is, all) (record { live = h.right_live; labels = h.right_labels; small = h.right_small; within = omega arith }))
     where
@@ -255,29 +247,28 @@ module _ (s : Sheet) (marks : List ℕ) (c : ℕ) (b : Two) (h : ReadyColumn s m
       all = omega arith
 
   -- the side of the first row is open, and has a row to come
-  begun : (k : ℕ) → k < 2 → get_or marks (row_at s c 0) 0 ≡ k → (side_at scan seen k).closed ≡ false → (side_at scan seen k).skip ≡ 0 → ((side_at scan seen k).closed || idle (side_at scan seen k)) ≡ false
+  begun : (k : ℕ) → k < 2 → get_or marks (row_at s c 0) 0 ≡ k → (side_at sides k).closed ≡ false → (side_at sides k).skip ≡ 0 → ((side_at sides k).closed || idle (side_at sides k)) ≡ false
   unfolding idle
   begun k l e shut none = rw (shut, short)
     where
-      here_kept : SideKept s (row_at s c 0 ∷ to_come s marks c k 1) (side_at scan seen k)
-      here_kept = subst (λ (rs : List ℕ). SideKept s rs (side_at scan seen k)) (own_rows s marks c 0 h.some k l e) (kept k l)
+      here_kept : SideKept s (row_at s c 0 ∷ to_come s marks c k 1) (side_at sides k)
+      here_kept = subst (λ (rs : List ℕ). SideKept s rs (side_at sides k)) (own_rows s marks c 0 h.some k l e) (kept k l)
 
-      short : idle (side_at scan seen k) ≡ false
+      short : idle (side_at sides k) ≡ false
       short =
-          unfold idle in same_bool (leb (rows_left (side_at scan seen k)) (side_at scan seen k).skip) false
-          (λ y. absurd (omega (arith, leb→le (rows_left (side_at scan seen k)) (side_at scan seen k).skip y, none, (fits s (row_at s c 0) (to_come s marks c k 1) (side_at scan seen k) here_kept shut).rows)))
+          unfold idle in same_bool (leb (rows_left (side_at sides k)) (side_at sides k).skip) false
+          (λ y. absurd (omega (arith, leb→le (rows_left (side_at sides k)) (side_at sides k).skip y, none, (fits s (row_at s c 0) (to_come s marks c k 1) (side_at sides k) here_kept shut).rows)))
           (λ y. absurd y)
 
-  pub opens : length scan ≡ 2 → length seen ≡ 2 → Along s marks c (scan_rows s (go_left marks) c s.rows 0 (both_at scan seen)) 0 scan seen
-  opens two two_seen =
+  pub opens : length sides ≡ 2 → Along s marks c (scan_rows s (go_left marks) c s.rows 0 (both_of sides)) 0 sides
+  opens two =
       record {
         within = omega arith;
         two = two;
-        two_seen = two_seen;
-        same = ap (λ (n : ℕ). scan_rows s (go_left marks) c n 0 (both_at scan seen)) all;
-        going = by_two (λ k. get_or marks (row_at s c 0) 0 ≡ k → ended (both_at scan seen) ≡ false) (get_or marks (row_at s c 0) 0) (h.numbered (row_at s c 0) (h.in_rows 0 h.some))
-            (λ e. same_bool (ended (both_at scan seen)) false (λ t. subst T (begun 0 (omega arith) e (shut 0 b.left left_is) (fresh 0 b.left left_is)) (ended_left (both_at scan seen) t)) (λ t. absurd t))
-            (λ e. same_bool (ended (both_at scan seen)) false (λ t. subst T (begun 1 (omega arith) e (shut 1 b.right right_is) (fresh 1 b.right right_is)) (ended_right (both_at scan seen) t)) (λ t. absurd t))
+        same = ap (λ (n : ℕ). scan_rows s (go_left marks) c n 0 (both_of sides)) all;
+        going = by_two (λ k. get_or marks (row_at s c 0) 0 ≡ k → ended (both_of sides) ≡ false) (get_or marks (row_at s c 0) 0) (h.numbered (row_at s c 0) (h.in_rows 0 h.some))
+            (λ e. same_bool (ended (both_of sides)) false (λ t. subst T (begun 0 (omega arith) e (shut 0 b.left left_is) (fresh 0 b.left left_is)) (ended_left (both_of sides) t)) (λ t. absurd t))
+            (λ e. same_bool (ended (both_of sides)) false (λ t. subst T (begun 1 (omega arith) e (shut 1 b.right right_is) (fresh 1 b.right right_is)) (ended_right (both_of sides) t)) (λ t. absurd t))
             refl;
         each = kept;
       }
@@ -285,13 +276,112 @@ module _ (s : Sheet) (marks : List ℕ) (c : ℕ) (b : Two) (h : ReadyColumn s m
       all : s.rows - 0 ≡ s.rows
       all = omega arith
 
-      shut : (k : ℕ) (t : SideScan) → side_at scan seen k ≡ restarted t → (side_at scan seen k).closed ≡ false
+      shut : (k : ℕ) (t : SideScan) → side_at sides k ≡ restarted t → (side_at sides k).closed ≡ false
       shut k t e = ap (λ (t : SideScan). t.closed) e ∙ unfold restarted in refl
 
-      fresh : (k : ℕ) (t : SideScan) → side_at scan seen k ≡ restarted t → (side_at scan seen k).skip ≡ 0
+      fresh : (k : ℕ) (t : SideScan) → side_at sides k ≡ restarted t → (side_at sides k).skip ≡ 0
       fresh k t e = ap (λ (t : SideScan). t.skip) e ∙ unfold restarted in refl
 
   -- and what its rows leave is what the column leaves
-  pub leaves : scan_rows s (go_left marks) c s.rows 0 (both_at scan seen) ≡ scan_column s (go_left marks) c b
+  pub leaves : scan_rows s (go_left marks) c s.rows 0 (both_of sides) ≡ scan_column s (go_left marks) c b
   unfolding scan_column
   leaves = ap₂ (λ (l r : SideScan). scan_rows s (go_left marks) c s.rows 0 (record { left = l; right = r })) left_is right_is
+
+-- the two sides restarted one after the other, by their numbers
+module _ (s : Sheet) (marks : List ℕ) (c : ℕ) (old : List SideScan) (ready : ReadyColumn s marks c (both_of old)) (two : length old ≡ 2) (l r : SideScan)
+    (el : l ≡ restarted (side_at old 0)) (er : r ≡ restarted (side_at (set old 0 l) 1)) where
+  abbrev half : List SideScan
+  half = set old 0 l
+
+  abbrev fresh_sides : List SideScan
+  fresh_sides = set half 1 r
+
+  first : Changed old half 0 l no_side
+  first = set_at old 0 l no_side two (omega arith)
+
+  second : Changed half fresh_sides 1 r no_side
+  second = set_at half 1 r no_side first.two (omega arith)
+
+  left_fresh : side_at fresh_sides 0 ≡ restarted (both_of old).left
+  left_fresh = second.elsewhere 0 (λ e. absurd (omega (arith, e))) ∙ first.at ∙ el
+
+  right_fresh : side_at fresh_sides 1 ≡ restarted (both_of old).right
+  right_fresh = second.at ∙ er ∙ ap restarted (first.elsewhere 1 (λ e. absurd (omega (arith, e))))
+
+  pub opens_fresh : Along s marks c (scan_rows s (go_left marks) c s.rows 0 (both_of fresh_sides)) 0 fresh_sides
+  opens_fresh = opens s marks c (both_of old) ready fresh_sides left_fresh right_fresh second.two
+
+  pub leaves_fresh : scan_rows s (go_left marks) c s.rows 0 (both_of fresh_sides) ≡ scan_column s (go_left marks) c (both_of old)
+  leaves_fresh = leaves s marks c (both_of old) ready fresh_sides left_fresh right_fresh
+
+-- ---- a row as the code reads it
+
+not_both : (a b : Bool) → (a && b) ≡ false → (a ≡ false → b ≡ false) → b ≡ false
+not_both true b e f = e
+not_both false b e f = f refl
+
+second_too : (a b : Bool) → (a && b) ≡ true → b ≡ true
+second_too true b e = e
+second_too false true e = refl
+second_too false false e = e
+
+module _ (s : Sheet) (marks : List ℕ) (c : ℕ) (b : Two) (ready : ReadyColumn s marks c b) (target : Two) (i : ℕ) (sides : List SideScan)
+    (h : Along s marks c target i sides) (more : i < s.rows) (r : ℕ) (read : r ≡ get_or s.order (c * s.rows + i) 0) where
+  row_is : r ≡ row_at s c i
+  unfolding row_at
+  row_is = read
+
+  pub row_in : r < s.rows
+  row_in = rw row_is (ready.in_rows i more)
+
+  abbrev side : ℕ
+  side = get_or marks r 0
+
+  pub side_in : side < 2
+  side_in = ready.numbered r row_in
+
+  side_is : get_or marks (row_at s c i) 0 ≡ side
+  side_is = ap (λ (x : ℕ). get_or marks x 0) (sym row_is)
+
+  -- a row of a closed side
+  pub passed : (side_at sides side).closed ≡ true → Along s marks c target (i + 1) sides
+  passed e = stays s marks c target i sides h more side side_in side_is e
+
+  -- a row of an open one
+  module _ (l : ℕ) (read_label : l ≡ get_or s.codes r 0) where
+    label_is : l ≡ label_of s (row_at s c i)
+    unfolding label_of
+    label_is = read_label ∙ ap (λ (x : ℕ). get_or s.codes x 0) row_is
+
+    pub taken : Steppable (side_at sides side) l
+    taken e =
+        subst (Ready (side_at sides side)) (sym label_is)
+        (can_take s (row_at s c i) _ (side_at sides side) (here s marks c target i sides h more side side_in side_is) e (ready.labelled (row_at s c i) (ready.in_rows i more)))
+
+    module _ (next : SideScan) (advanced : next ≡ step_of (side_at sides side) c l (get_or s.values (c * s.rows + r) nan)) where
+      value_is : get_or s.values (c * s.rows + r) nan ≡ value_of s c (row_at s c i)
+      unfolding value_of
+      value_is = ap (λ (x : ℕ). get_or s.values (c * s.rows + x) nan) row_is
+
+      abbrev moved_sides : List SideScan
+      moved_sides = set sides side next
+
+      move : Moved s marks c target i sides h more side side_in side_is moved_sides
+      move = moved s marks c target i sides h more side side_in side_is next (advanced ∙ ap₂ (λ (l : ℕ) (v : Float). step_of (side_at sides side) c l v) label_is value_is)
+
+      pub none_past : Within moved_sides
+      none_past k l = (each_next s marks c target i sides h more side side_in side_is moved_sides move k l).within
+
+      abbrev over_now : Bool
+      over_now = ((side_at moved_sides side).closed || idle (side_at moved_sides side)) && ended (both_of moved_sides)
+
+      pub goes_on : (x : Bool) → x ≡ over_now → x ≡ false → Along s marks c target (i + 1) moved_sides
+      goes_on x e f =
+          on s marks c target i sides h more side side_in side_is moved_sides move
+          (not_both ((side_at moved_sides side).closed || idle (side_at moved_sides side)) (ended (both_of moved_sides)) (sym e ∙ f)
+          (not_ended s marks c target i sides h more side side_in side_is moved_sides move))
+
+      pub ends : (x : Bool) → x ≡ over_now → x ≡ true → both_of moved_sides ≡ target
+      ends x e f =
+          over s marks c target i sides h more side side_in side_is moved_sides move
+          (second_too ((side_at moved_sides side).closed || idle (side_at moved_sides side)) (ended (both_of moved_sides)) (sym e ∙ f))

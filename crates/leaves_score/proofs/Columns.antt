@@ -16,9 +16,8 @@ use Rattle.sheet.specs.Sheet.{Sheet, value_of, label_of, row_at, every_row}
 use Rattle.sheet.specs.Rows.{rows_at}
 use Rattle.sheet.proofs.Index.{column_in}
 use Rattle.side_scan.specs.declared.SideScan.{SideScan}
-use Rattle.leaves_score.specs.declared.two_sides.Two.{Two}
 use Rattle.side_scan.specs.OneSide.{restarted}
-use Rattle.leaves_score.specs.Column.{other, labelled, own_of, row_step, step_both, ended, scan_rows, scan_column}
+use Rattle.leaves_score.specs.Column.{Two, other, labelled, own_of, row_step, step_both, ended, scan_rows, scan_column}
 use Rattle.leaves_score.specs.Scan.{perfect, scan_columns, start_both, scanned}
 use Rattle.leaves_score.specs.Kept.{Owns}
 use Rattle.side_scan.specs.Step.{SideSized}

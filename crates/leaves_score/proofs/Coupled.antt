@@ -8,9 +8,8 @@ use lib.Dec.{T}
 use Rattle.basics.specs.Lists.{those}
 use Rattle.basics.proofs.Choice.{by_test, either, and_left, and_right, or_left, or_right}
 use Rattle.sheet.specs.Sheet.{Sheet, row_at}
-use Rattle.leaves_score.specs.declared.two_sides.Two.{Two}
 use Rattle.side_scan.specs.OneSide.{restarted}
-use Rattle.leaves_score.specs.Column.{other, step_both, idle, ended, scan_rows, through}
+use Rattle.leaves_score.specs.Column.{Two, other, step_both, idle, ended, scan_rows, through}
 use Rattle.leaves_score.specs.Kept.{rows_to_come, Alike, Live}
 use Rattle.leaves_score.proofs.Live.{left_is, right_is, live_left, live_right}
 use Rattle.leaves_score.proofs.Single.{stays, runs_at}

@@ -7,7 +7,7 @@ use mathlib.Core.Bool.{Bool, true, false, not, ◌&&◌}
 use mathlib.Core.List.{List, ◌∷◌}
 use lib.ListN.{get_or}
 use lib.Dec.{T, T_not, not_T, ltb, eqb, ltb→lt, nltb→le}
-use lib.Ieee.{Float, eq}
+use lib.Ieee.{Float}
 use Rattle.basics.specs.Choice.{pick}
 use Rattle.basics.specs.Lists.{tally, those, table}
 use Rattle.basics.proofs.Choice.{by_test, decide, and_right, nor_right, pick_true, pick_false}
@@ -18,10 +18,9 @@ use Rattle.sheet.specs.Sound.{Limited, Sound}
 use Rattle.sheet.specs.Rows.{rows_at}
 use Rattle.side_scan.specs.declared.SideScan.{SideScan}
 use Rattle.side_scan.specs.declared.cut_score.Best.{Best}
-use Rattle.leaves_score.specs.declared.two_sides.Two.{Two}
-use Rattle.side_scan.specs.Scored.{fallen, verdict_of}
+use Rattle.side_scan.specs.Scored.{fallen, repeated, verdict_of}
 use Rattle.side_scan.specs.OneSide.{restarted, quiet, total_of, supported, takes, split_at, best_after, skip_after, closes, count_row, only_counted, scored, step_of}
-use Rattle.leaves_score.specs.Column.{other, labelled, own_of, side_at_start, row_step, step_both}
+use Rattle.leaves_score.specs.Column.{Two, other, labelled, own_of, side_at_start, row_step, step_both}
 use Rattle.leaves_score.specs.Kept.{rows_to_come, Owns, Fits, Open, Live}
 use Rattle.leaves_score.proofs.Counts.{fits_step, total_step, fits_cleared}
 
@@ -51,7 +50,7 @@ module _ (t : SideScan) where
   -- a scored row has skip 0 or 1
   pub skip_low : (v : Float) → T (not (quiet t v)) → t.skip ≤ 1
   unfolding quiet
-  skip_low v n = omega (arith, nltb→le 0 (fallen t.skip) (nor_right (t.started && eq t.previous v) (ltb 0 (fallen t.skip)) n))
+  skip_low v n = omega (arith, nltb→le 0 (fallen t.skip) (nor_right (repeated t.previous v) (ltb 0 (fallen t.skip)) n))
 
   pub step_open {ℓ} : (P : SideScan → Type ℓ) (c l : ℕ) (v : Float) → T (not t.closed)
       → (T (quiet t v) → P (only_counted t l v)) → (T (not (quiet t v)) → P (scored t c l v)) → P (step_of t c l v)

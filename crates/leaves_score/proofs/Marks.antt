@@ -12,11 +12,10 @@ use Rattle.basics.proofs.Lists.{table_same}
 use Rattle.sheet.specs.Limits.{most_labels}
 use Rattle.sheet.specs.Sheet.{Sheet, label_of, row_at, every_row, least_rows}
 use Rattle.sheet.specs.Rows.{rows_at}
-use Rattle.leaves_score.specs.declared.two_sides.Two.{Two}
 use Rattle.side_scan.specs.declared.SideScan.{SideScan}
 use Rattle.side_scan.specs.Commonest.{most_of}
 use Rattle.side_scan.specs.OneSide.{leaf_best, restarted, side_of, at_start}
-use Rattle.leaves_score.specs.Column.{other, labelled, own_of, side_at_start, row_step, step_both, ended, scan_rows, scan_column}
+use Rattle.leaves_score.specs.Column.{Two, other, labelled, own_of, side_at_start, row_step, step_both, ended, scan_rows, scan_column}
 use Rattle.leaves_score.specs.Scan.{perfect, scan_columns, start_both, scanned, sides_of}
 
 tally_table : (p q : ℕ → Bool) (f : ℕ → ℕ) (n : ℕ) → ((k : ℕ) → k < n → bit (p (f k)) ≡ bit (q (f k))) → tally p (table f n) ≡ tally q (table f n)

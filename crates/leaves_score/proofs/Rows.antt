@@ -1,10 +1,10 @@
 -- Counting the rows of a side one by one: each row adds one to the count of its label and to the side's size, if it is the side's. Assumes nothing.
-use Prim.Native.Nat.{ℕ, zero, suc, ◌+◌, ◌-◌, ◌≤◌, ◌<◌}
+use Prim.Native.Nat.{ℕ, zero, suc, ◌+◌, ◌≤◌, ◌<◌}
 use native.Mathlib.Omega.{arith}
 use native.Mathlib.Numerals.{add-one}
-use mathlib.Core.Path.{◌≡◌, refl, sym, ap, ◌∙◌}
+use mathlib.Core.Path.{◌≡◌, refl, sym, ap, ap₂, subst, ◌∙◌}
 use mathlib.Core.Bool.{Bool, true, false, not, ◌&&◌}
-use mathlib.Core.List.{List, []}
+use mathlib.Core.List.{List, [], ◌∷◌}
 use lib.ListN.{length, get_or, set, length-set, length-replicate}
 use lib.Seq.{ext_get_or, get_or-set_same, get_or-set_other}
 use lib.Dec.{eqb}
@@ -17,8 +17,9 @@ use Rattle.sheet.specs.Sheet.{label_of}
 use Rattle.sheet.specs.Rows.{rows_at}
 use Rattle.side_scan.specs.Counts.{no_rows}
 use Rattle.side_scan.specs.OneSide.{raised}
+use Rattle.leaves_score.specs.declared.two_sides.Part.{Part}
 use Rattle.leaves_score.specs.Column.{other, labelled, own_of}
-use Rattle.leaves_score.specs.SideLists.{rows_only}
+use Rattle.leaves_score.specs.SideLists.{rows_only, part_of, parts_of}
 use Rattle.leaves_score.specs.Lists.{go_left}
 use Rattle.leaves_score.proofs.Counts.{raised_at, raised_long, none_at}
 
@@ -112,83 +113,88 @@ module _ (codes : List ℕ) (mine : ℕ → Bool) where
     unfolding rows_at
     size_is = t.all
 
--- ---- both sides, their counts by number
+-- ---- a list by the side's number, of which one place changes
 
-pub record Parting (codes marks : List ℕ) (rows row : ℕ) (counts : List (List ℕ)) (rest : ℕ) : Type 0 where
-  pub within : row ≤ rows
-  pub two : length counts ≡ 2
-  pub left : Tallied codes (go_left marks) row (get_or counts 0 []) (row - rest)
-  pub right : Tallied codes (other (go_left marks)) row (get_or counts 1 []) rest
+pub record Changed {A : Type 0} (xs ys : List A) (side : ℕ) (y d : A) : Type 0 where
+  pub two : length ys ≡ 2
+  pub at : get_or ys side d ≡ y
+  pub elsewhere : (k : ℕ) → (k ≡ side → ⊥) → get_or ys k d ≡ get_or xs k d
 
-module _ (codes marks : List ℕ) (rows row : ℕ) (counts : List (List ℕ)) (rest : ℕ) (h : Parting codes marks rows row counts rest) where
-  -- a label of either side counts no more rows than were met
-  pub met : (side label : ℕ) → side < 2 → label < most_labels → get_or (get_or counts side []) label 0 ≤ row
+pub set_at : {A : Type 0} (xs : List A) (side : ℕ) (y d : A) → length xs ≡ 2 → side < 2 → Changed xs (set xs side y) side y d
+set_at xs side y d h l =
+    record { two = length-set xs side y ∙ h; at = get_or-set_same xs side y d (omega arith); elsewhere = λ k n. get_or-set_other xs side k y d n }
+
+-- ---- both sides, their rows by number
+
+-- what a list of them has past its end
+abbrev pub no_part : Part
+no_part = record { own = []; size = 0 }
+
+abbrev pub at : List Part → ℕ → Part
+at parts k = get_or parts k no_part
+
+pub record Parting (codes marks : List ℕ) (row : ℕ) (parts : List Part) : Type 0 where
+  pub two : length parts ≡ 2
+  pub left : Tallied codes (go_left marks) row (at parts 0).own (at parts 0).size
+  pub right : Tallied codes (other (go_left marks)) row (at parts 1).own (at parts 1).size
+
+module _ (codes marks : List ℕ) (row : ℕ) (parts : List Part) (h : Parting codes marks row parts) where
+  -- a label of either side, and a side, counts no more rows than were met
+  pub met : (side label : ℕ) → side < 2 → label < most_labels → get_or (at parts side).own label 0 ≤ row
   met side label s l =
-      by_two (λ k. get_or (get_or counts k []) label 0 ≤ row) side s
-      (count_low codes (go_left marks) row (get_or counts 0 []) (row - rest) h.left label l)
-      (count_low codes (other (go_left marks)) row (get_or counts 1 []) rest h.right label l)
+      by_two (λ k. get_or (at parts k).own label 0 ≤ row) side s
+      (count_low codes (go_left marks) row (at parts 0).own (at parts 0).size h.left label l)
+      (count_low codes (other (go_left marks)) row (at parts 1).own (at parts 1).size h.right label l)
 
-  pub right_few : rest ≤ row
-  right_few = size_low codes (other (go_left marks)) row (get_or counts 1 []) rest h.right
+  pub size_met : (side : ℕ) → side < 2 → (at parts side).size ≤ row
+  size_met side s =
+      by_two (λ k. (at parts k).size ≤ row) side s
+      (size_low codes (go_left marks) row (at parts 0).own (at parts 0).size h.left)
+      (size_low codes (other (go_left marks)) row (at parts 1).own (at parts 1).size h.right)
 
-  module _ (more : row < rows) (label side : ℕ) (el : label ≡ get_or codes row 0) (es : side ≡ get_or marks row 0) (in_two : side < 2) where
-    abbrev counted : List (List ℕ)
-    counted = set counts side (raised (get_or counts side []) label)
+  module _ (label side : ℕ) (el : label ≡ get_or codes row 0) (es : side ≡ get_or marks row 0) (in_two : side < 2) (next : Part)
+      (e : next ≡ record { own = raised (at parts side).own label; size = (at parts side).size + 1 }) where
+    abbrev now : List Part
+    now = set parts side next
 
-    set_two : length counted ≡ 2
-    set_two = length-set counts side (raised (get_or counts side []) label) ∙ h.two
+    changed : Changed parts now side next no_part
+    changed = set_at parts side next no_part h.two in_two
 
-    -- the side's own counts are raised, the other's stay
-    raised_own : (k : ℕ) → side ≡ k → k < 2 → get_or counted k [] ≡ raised (get_or counts k []) label
-    raised_own k e l =
-        ap (λ (n : ℕ). get_or (set counts n (raised (get_or counts n []) label)) k []) e ∙ get_or-set_same counts k (raised (get_or counts k []) label) [] (omega (arith, h.two))
+    counted : (k : ℕ) → side ≡ k → at now k ≡ record { own = raised (at parts k).own label; size = (at parts k).size + 1 }
+    counted k q = subst (λ (k : ℕ). at now k ≡ record { own = raised (at parts k).own label; size = (at parts k).size + 1 }) q (changed.at ∙ e)
 
-    kept_other : (k : ℕ) → (k ≡ side → ⊥) → get_or counted k [] ≡ get_or counts k []
-    kept_other k n = get_or-set_other counts side k (raised (get_or counts side []) label) [] n
-
-    to_left : side ≡ 0 → Parting codes marks rows (row + 1) counted (rest + side)
+    to_left : side ≡ 0 → Parting codes marks (row + 1) now
     to_left zeroth =
+        let m : go_left marks row ≡ true = left_number marks row (sym es ∙ zeroth) in
         record {
-          within = omega arith;
-          two = set_two;
-          left =
-              rw (raised_own 0 zeroth (omega arith), more_left)
-              (one_more codes (go_left marks) row (get_or counts 0 []) (row - rest) label m el h.left);
-          right =
-              rw (kept_other 1 (λ e. absurd (omega (arith, e, zeroth))), same_right)
-              (none_more codes (other (go_left marks)) row (get_or counts 1 []) rest (ap not m) h.right);
+          two = changed.two;
+          left = rw (counted 0 zeroth) (one_more codes (go_left marks) row (at parts 0).own (at parts 0).size label m el h.left);
+          right = rw (changed.elsewhere 1 (λ e. absurd (omega (arith, e, zeroth)))) (none_more codes (other (go_left marks)) row (at parts 1).own (at parts 1).size (ap not m) h.right);
         }
-      where
-        m : go_left marks row ≡ true
-        m = left_number marks row (sym es ∙ zeroth)
 
-        more_left : row + 1 - (rest + side) ≡ row - rest + 1
-        more_left = omega (arith, zeroth, right_few)
-
-        same_right : rest + side ≡ rest
-        same_right = omega (arith, zeroth)
-
-    to_right : side ≡ 1 → Parting codes marks rows (row + 1) counted (rest + side)
+    to_right : side ≡ 1 → Parting codes marks (row + 1) now
     to_right first =
+        let m : go_left marks row ≡ false = right_number marks row (sym es ∙ first) in
         record {
-          within = omega arith;
-          two = set_two;
-          left =
-              rw (kept_other 0 (λ e. absurd (omega (arith, e, first))), same_left)
-              (none_more codes (go_left marks) row (get_or counts 0 []) (row - rest) m h.left);
-          right =
-              rw (raised_own 1 first (omega arith), more_right)
-              (one_more codes (other (go_left marks)) row (get_or counts 1 []) rest label (ap not m) el h.right);
+          two = changed.two;
+          left = rw (changed.elsewhere 0 (λ e. absurd (omega (arith, e, first)))) (none_more codes (go_left marks) row (at parts 0).own (at parts 0).size m h.left);
+          right = rw (counted 1 first) (one_more codes (other (go_left marks)) row (at parts 1).own (at parts 1).size label (ap not m) el h.right);
         }
-      where
-        m : go_left marks row ≡ false
-        m = right_number marks row (sym es ∙ first)
 
-        same_left : row + 1 - (rest + side) ≡ row - rest
-        same_left = omega (arith, first, right_few)
+    pub parts_on : Parting codes marks (row + 1) now
+    parts_on = by_two (λ k. side ≡ k → Parting codes marks (row + 1) now) side in_two to_left to_right refl
 
-        more_right : rest + side ≡ rest + 1
-        more_right = omega (arith, first)
+two_are : {A : Type 0} (xs : List A) (d : A) → length xs ≡ 2 → xs ≡ get_or xs 0 d ∷ get_or xs 1 d ∷ []
+two_are [] d e = absurd (omega (arith, e))
+two_are (x ∷ []) d e = absurd (omega (arith, e))
+two_are (x ∷ y ∷ []) d e = refl
+two_are (x ∷ y ∷ z ∷ xs) d e = absurd (omega (arith, e))
 
-    pub parts_on : Parting codes marks rows (row + 1) counted (rest + side)
-    parts_on = by_two (λ k. side ≡ k → Parting codes marks rows (row + 1) counted (rest + side)) side in_two to_left to_right refl
+-- all rows are parted
+pub parted : (codes marks : List ℕ) (rows row : ℕ) (parts : List Part) → row ≡ rows → Parting codes marks row parts → parts ≡ parts_of rows codes marks
+parted codes marks rows row parts all h =
+    let one : (mine : ℕ → Bool) (p : Part) → Tallied codes mine row p.own p.size → p ≡ part_of row codes mine =
+    λ mine p t. ap₂ (λ (own : List ℕ) (size : ℕ). record { own = own; size = size }) (own_is codes mine row p.own p.size t) (size_is codes mine row p.own p.size t) in
+    two_are parts no_part h.two
+    ∙ ap₂ (λ (l r : Part). l ∷ r ∷ []) (one (go_left marks) (at parts 0) h.left) (one (other (go_left marks)) (at parts 1) h.right)
+    ∙ ap (λ (n : ℕ). parts_of n codes marks) all

@@ -9,7 +9,6 @@ use Rattle.sheet.specs.Rows.{rows_at}
 use Rattle.side_scan.specs.declared.SideScan.{SideScan}
 use Rattle.side_scan.specs.OneSide.{restarted, rows_left, step_of}
 use Rattle.side_scan.specs.Step.{leaf_scan}
-use Rattle.leaves_score.specs.declared.two_sides.Two.{Two}
 
 -- ---- a side's own rows
 
@@ -29,6 +28,11 @@ unfoldable pub side_at_start : Sheet → ℕ → (ℕ → Bool) → SideScan
 side_at_start s support mine = leaf_scan (own_of s mine) (rows_at s mine) s.labels (least_rows support)
 
 -- ---- a column, both sides
+
+-- the scans of the two sides, which go through a column together
+pub record Two : Type 0 where
+  pub left : SideScan
+  pub right : SideScan
 
 abbrev pub row_step : Sheet → ℕ → ℕ → SideScan → SideScan
 row_step s c r t = step_of t c (label_of s r) (value_of s c r)

@@ -6,8 +6,7 @@ use Rattle.sheet.specs.Sheet.{Sheet}
 use Rattle.sheet.specs.Rows.{rows_at}
 use Rattle.side_scan.specs.OneSide as one
 use Rattle.side_scan.specs.OneSide.{side_of}
-use Rattle.leaves_score.specs.declared.two_sides.Two.{Two}
-use Rattle.leaves_score.specs.Column.{other, labelled, own_of, side_at_start, step_both, idle, ended, scan_rows, scan_column}
+use Rattle.leaves_score.specs.Column.{Two, other, labelled, own_of, side_at_start, step_both, idle, ended, scan_rows, scan_column}
 use Rattle.leaves_score.specs.declared.Sides.{Sides}
 
 -- ---- all columns

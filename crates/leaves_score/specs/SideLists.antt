@@ -1,15 +1,14 @@
 -- For proofs only. What the scan of a column reads of the lent lists, and what its functions go by and leave.
-use Rattle.std.specs.Prelude.{ℕ, ◌+◌, ◌*◌, ◌≤◌, ◌<◌, ◌≡◌, false, List, [], length, get_or, Float}
+use Rattle.std.specs.Prelude.{ℕ, ◌+◌, ◌*◌, ◌≤◌, ◌<◌, ◌≡◌, Bool, false, List, [], ◌∷◌, length, get_or, None}
 use Rattle.std.specs.Float.{nan}
 use Rattle.basics.specs.Lists.{those}
 use Rattle.sheet.specs.Limits.{most_labels, most_rows}
 use Rattle.sheet.specs.Sheet.{Sheet, label_of, row_at}
 use Rattle.sheet.specs.Rows.{rows_at}
 use Rattle.side_scan.specs.declared.SideScan.{SideScan}
-use Rattle.side_scan.specs.OneSide.{blank_best, restarted, only_counted}
-use Rattle.leaves_score.specs.declared.two_sides.Parted.{Parted}
-use Rattle.leaves_score.specs.declared.two_sides.Two.{Two}
-use Rattle.leaves_score.specs.Column.{other, own_of}
+use Rattle.side_scan.specs.OneSide.{blank_best, restarted}
+use Rattle.leaves_score.specs.declared.two_sides.Part.{Part}
+use Rattle.leaves_score.specs.Column.{Two, other, own_of}
 use Rattle.leaves_score.specs.Lists.{go_left}
 use Rattle.leaves_score.specs.Kept.{rows_to_come, Live}
 
@@ -19,14 +18,11 @@ use Rattle.leaves_score.specs.Kept.{rows_to_come, Live}
 abbrev pub rows_only : ℕ → List ℕ → Sheet
 rows_only rows codes = record { rows = rows; columns = 0; labels = 0; values = []; codes = codes; order = []; cuts = []; counts = [] }
 
-unfoldable pub parted_of : ℕ → List ℕ → List ℕ → Parted
-parted_of rows codes marks =
-    record {
-      own = own_of (rows_only rows codes) (go_left marks);
-      size = rows_at (rows_only rows codes) (go_left marks);
-      other = own_of (rows_only rows codes) (other (go_left marks));
-      rest = rows_at (rows_only rows codes) (other (go_left marks));
-    }
+abbrev pub part_of : ℕ → List ℕ → (ℕ → Bool) → Part
+part_of rows codes mine = record { own = own_of (rows_only rows codes) mine; size = rows_at (rows_only rows codes) mine }
+
+abbrev pub parts_of : ℕ → List ℕ → List ℕ → List Part
+parts_of rows codes marks = part_of rows codes (go_left marks) ∷ part_of rows codes (other (go_left marks)) ∷ []
 
 pub record ReadyRows (rows : ℕ) (codes marks : List ℕ) : Type 0 where
   pub few : rows ≤ most_rows
@@ -50,37 +46,19 @@ no_side =
       counted = 0;
       skip = 0;
       closed = false;
-      started = false;
-      previous = nan;
+      previous = None;
     }
 
--- a side's record with its counts, which lie beside it while its rows are only counted
-abbrev pub with_counts : SideScan → List ℕ → SideScan
-with_counts t seen =
-    record {
-      own = t.own;
-      size = t.size;
-      labels = t.labels;
-      least = t.least;
-      best = t.best;
-      seen = seen;
-      counted = t.counted;
-      skip = t.skip;
-      closed = t.closed;
-      started = t.started;
-      previous = t.previous;
-    }
+-- the record of side number k, and both
+abbrev pub side_at : List SideScan → ℕ → SideScan
+side_at sides k = get_or sides k no_side
 
--- a row only counted, but for its label, whichever it is
-abbrev pub counted_beside : SideScan → Float → SideScan
-counted_beside t value = with_counts (only_counted t 0 value) t.seen
+abbrev pub both_of : List SideScan → Two
+both_of sides = record { left = side_at sides 0; right = side_at sides 1 }
 
--- the record of side number k with its counts, and both
-abbrev pub side_at : List SideScan → List (List ℕ) → ℕ → SideScan
-side_at scan seen k = with_counts (get_or scan k no_side) (get_or seen k [])
-
-abbrev pub both_at : List SideScan → List (List ℕ) → Two
-both_at scan seen = record { left = side_at scan seen 0; right = side_at scan seen 1 }
+-- neither has counted more rows than it has
+abbrev pub Within : List SideScan → Type 0
+Within sides = (k : ℕ) → k < 2 → (side_at sides k).counted ≤ (side_at sides k).size
 
 -- What the scan of a column goes by: the lists are long enough, the order's entries are rows, a row's code is a label and its mark the number of its
 -- side, and the rows to come add up to each side's own.

@@ -5,15 +5,15 @@ mod column_scan;
 pub mod two_sides;
 
 ghost use Rattle.std.specs.Prelude.{◌≡◌};
-ghost use Rattle.sheet.specs.Sheet.{least_rows};
-ghost use Rattle.leaves_score.specs.Scan.{perfect, scanned, sides_of};
 ghost use Rattle.sheet.specs.Lent.{sheet_in};
-ghost use Rattle.leaves_score.specs.Lists.{Scannable, scan_sheet, scan_of, go_left};
+ghost use Rattle.leaves_score.specs.Scan.{perfect, scanned, sides_of};
+ghost use Rattle.leaves_score.specs.SideLists.{both_of};
+ghost use Rattle.leaves_score.specs.Lists.{Scannable, scan_of, go_left};
 
 use crate::column_scan::scan_column;
-use crate::two_sides::{Two, part_rows};
-use sheet::Size;
+use crate::two_sides::{SIDES, part_rows};
 use sheet::lent::LentSheet;
+use side_scan::SideScan;
 use tree::Side;
 
 // The two sides of a root split.
@@ -23,53 +23,30 @@ pub struct Sides {
     pub right: Side,
 }
 
-fn least_rows(support: u32) -> u32
-    ensures { result ≡ least_rows support }
+#[tactic(auto, unfolding(crate::specs::Scan::perfect))]
+fn is_perfect(sides: &[SideScan; SIDES]) -> bool
+    ensures { result ≡ perfect (both_of sides.now) }
 {
-    if support == 0 { 1 } else { support }
+    sides[0].best.score == sides[0].size && sides[1].best.score == sides[1].size
 }
 
-fn is_perfect(both: Two) -> bool
-    ensures { result ≡ perfect both }
+fn scan_columns(sheet: &LentSheet, support: u32, marks: &[u32]) -> [SideScan; SIDES]
+    requires { Scannable (scan_of (sheet_in sheet.now)) marks.now }
+    ensures { both_of result ≡ scanned (scan_of (sheet_in sheet.now)) support (go_left marks.now) }
 {
-    let first = both.left;
-    let second = both.right;
-    let left = first.best;
-    let right = second.best;
-    if left.score == first.size {
-        right.score == second.size
-    } else {
-        false
-    }
-}
-
-fn scan_columns(
-    size: Size,
-    support: u32,
-    values: &[f64],
-    codes: &[u8],
-    order: &[u16],
-    marks: &[u32],
-) -> Two
-    requires { Scannable (scan_sheet size values.now codes.now order.now) marks.now }
-    ensures { result ≡ scanned (scan_sheet size values.now codes.now order.now) support (go_left marks.now) }
-{
-    let parted = part_rows(size.rows, codes, marks);
-    let least = least_rows(support);
-    let own = parted.own;
-    let other = parted.other;
-    let left = side_scan::begin(own, parted.size, size.labels, least);
-    let right = side_scan::begin(other, parted.rest, size.labels, least);
-    let mut both = Two { left, right };
-    let mut column: usize = 0;
-    while column < size.columns {
-        both = scan_column(both, size, column, values, codes, order, marks);
-        column += 1;
-        if is_perfect(both) {
+    let size = sheet.measured.size;
+    let parts = part_rows(size.rows, sheet.measured.codes, marks);
+    let least = support.max(1);
+    let left = SideScan::begin(parts[0].own, parts[0].size, size.labels, least);
+    let right = SideScan::begin(parts[1].own, parts[1].size, size.labels, least);
+    let mut sides = [left, right];
+    for column in 0..size.columns {
+        scan_column(&mut sides, sheet, column, marks);
+        if is_perfect(&sides) {
             break;
         }
     }
-    both
+    sides
 }
 
 // The two sides of the root split that sends the rows with mark 0 left. The search calls it on an accepted sheet only, which is what it asks for.
@@ -77,16 +54,8 @@ pub fn get_leaves_score(sheet: &LentSheet, support: u32, marks: &[u32]) -> Sides
     requires { Scannable (scan_of (sheet_in sheet.now)) marks.now }
     ensures { result ≡ sides_of (scan_of (sheet_in sheet.now)) support (go_left marks.now) }
 {
-    let measured = sheet.measured;
-    let both = scan_columns(
-        measured.size,
-        support,
-        measured.values,
-        measured.codes,
-        sheet.order,
-        marks,
-    );
-    let left = side_scan::side_of(both.left);
-    let right = side_scan::side_of(both.right);
+    let sides = scan_columns(sheet, support, marks);
+    let left = sides[0].to_side();
+    let right = sides[1].to_side();
     Sides { left, right }
 }

@@ -2,10 +2,10 @@
 use mathlib.Core.Path.{◌≡◌, refl, ap, ◌∙◌}
 use Prim.Native.Nat.{ℕ, suc, ◌+◌, ◌≤◌}
 use native.Mathlib.Omega.{arith}
-use mathlib.Core.Bool.{Bool, false, not, ◌&&◌}
+use mathlib.Core.Bool.{false}
 use mathlib.Core.List.{List, [], ◌∷◌, ◌++◌}
 use lib.ListN.{length}
-use lib.Ieee.{Float, eq}
+use lib.Ieee.{Float}
 use Rattle.basics.specs.Lists.{All}
 use Rattle.basics.proofs.Choice.{by_ltb}
 use Rattle.sheet.specs.Sheet.{Sheet, value_of, label_of}
@@ -65,12 +65,8 @@ bare b t =
       counted = t.counted;
       skip = 0;
       closed = false;
-      started = t.started;
       previous = t.previous;
     }
-
-abbrev pub starts : SideScan → Float → Bool
-starts t v = t.started && not (eq t.previous v)
 
 -- ---- a row counted
 

@@ -10,9 +10,8 @@ use Rattle.basics.proofs.Choice.{by_test, and_left, and_right}
 use Rattle.sheet.specs.Sheet.{Sheet, order_of}
 use Rattle.sheet.specs.Sound.{Sound}
 use Rattle.side_scan.specs.declared.SideScan.{SideScan}
-use Rattle.leaves_score.specs.declared.two_sides.Two.{Two}
 use Rattle.side_scan.specs.OneSide.{restarted, leaf_label, leaf_score, side_of}
-use Rattle.leaves_score.specs.Column.{other, side_at_start, scan_rows, scan_column, through}
+use Rattle.leaves_score.specs.Column.{Two, other, side_at_start, scan_rows, scan_column, through}
 use Rattle.leaves_score.specs.Scan.{perfect, scan_columns, start_both, scanned, sides_of}
 use Rattle.leaves_score.specs.Kept.{Alike, Owns, Live}
 use Rattle.leaves_score.proofs.Single.{perfected, owns_through}

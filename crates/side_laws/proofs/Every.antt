@@ -6,7 +6,8 @@ use native.Mathlib.Omega.{arith}
 use mathlib.Core.Bool.{Bool, true, false, not, ◌&&◌}
 use mathlib.Core.List.{List, [], ◌∷◌}
 use lib.ListN.{length}
-use lib.Ieee.{eq}
+use lib.Ieee.{Float, eq}
+use Rattle.std.specs.Prelude.{Option, Some, None}
 use lib.Dec.{T, T_not, not_T, leb, ltb, eqb, leb→le, ltb→lt, eqb→eq}
 use Rattle.basics.specs.Choice.{pick}
 use Rattle.basics.specs.Lists.{All, those}
@@ -17,19 +18,19 @@ use Rattle.sheet.specs.Rows.{rows_at}
 use Rattle.side_scan.specs.declared.SideScan.{SideScan}
 use Rattle.side_scan.specs.declared.cut_score.Best.{Best}
 use Rattle.side_scan.specs.Counts.{peaks_of}
-use Rattle.side_scan.specs.Scored.{fallen, verdict_of, split_by}
+use Rattle.side_scan.specs.Scored.{fallen, repeated, verdict_of, split_by}
 use Rattle.side_scan.specs.OneSide.{restarted, quiet, rows_left, left_best, right_best, total_of, supported, takes, split_at, best_after, skip_after, closes, count_row, only_counted, scored, at_start}
 use Rattle.leaves_score.specs.Column.{own_of, side_at_start, through}
 use Rattle.leaves_score.specs.Kept.{Owns, Fits, Open}
 use Rattle.leaves_score.proofs.Counts.{rows_left_lem}
 use Rattle.leaves_score.proofs.Live.{best_left, skip_taken, skip_left, skip_low, step_open, open_counted, open_scored, owns_start, start_live}
 use Rattle.side_laws.specs.Alone.{column_alone, columns_alone, alone}
-use Rattle.side_laws.specs.First.{better, first_best}
+use Rattle.side_laws.specs.First.{starts, better, first_best}
 use Rattle.side_laws.specs.Every.{pure_from, offers_from, offers_of, all_offers, Offered}
 use Rattle.side_laws.proofs.Tests.{pick_and, pick_and_true, pick_same}
 use Rattle.leaves_score.proofs.Single.{shut}
 use Rattle.side_laws.proofs.Decouple.{owns_column}
-use Rattle.side_laws.proofs.Best.{bare, starts, better_low, first_low, first_append, split_score, next, next_fits, next_total, next_left, total_pure}
+use Rattle.side_laws.proofs.Best.{bare, better_low, first_low, first_append, split_score, next, next_fits, next_total, next_left, total_pure}
 
 -- ---- laws of pick
 pick_move : (q : Bool) (b n : Best) (y : List Best) → first_best b (pick q (n ∷ y) y) ≡ first_best (pick q (better b n) b) y
@@ -38,10 +39,9 @@ pick_move true b n y = refl
 pick_move false b n y = refl
 
 -- a value that repeats does not start
-repeats : (a e : Bool) → T (a && e) → T (not (a && not e))
-repeats true true y = tt
-repeats true false y = absurd y
-repeats false e y = absurd y
+repeats : (p : Option Float) (v : Float) → T (repeated p v) → T (not (starts p v))
+repeats None v y = absurd y
+repeats (Some p) v y = not_not (eq p v) y
 
 module _ (s : Sheet) (c : ℕ) (b0 : Best) where
   -- what is to come, wherever the scan stands
@@ -52,7 +52,7 @@ module _ (s : Sheet) (c : ℕ) (b0 : Best) where
   on r rs t = pick (pure_from t (value_of s c r)) [] (offers (next s c r t) rs)
 
   abbrev offered : ℕ → SideScan → Bool
-  offered r t = starts t (value_of s c r) && supported t
+  offered r t = starts t.previous (value_of s c r) && supported t
 
   pub offers_none : (t : SideScan) → offers t [] ≡ []
   unfolding offers offers_from
@@ -95,9 +95,9 @@ module _ (s : Sheet) (c : ℕ) (b0 : Best) where
   -- ---- the scan against the offers
 
   -- before the first row nothing is counted
-  abbrev pub Started : SideScan → Bool → Type 0
-  Started t false = t.counted ≡ 0
-  Started t true = Unit {0}
+  abbrev pub Started : SideScan → Option Float → Type 0
+  Started t None = t.counted ≡ 0
+  Started t (Some p) = Unit {0}
 
   module _ (r : ℕ) (rs : List ℕ) (t : SideScan) (some : 1 ≤ t.least) (h : Open s (r ∷ rs) t) where
     unsupported : t.counted ≡ 0 → T (not (supported t))
@@ -106,25 +106,25 @@ module _ (s : Sheet) (c : ℕ) (b0 : Best) where
         (λ y. absurd (omega (arith, leb→le t.least t.counted (and_left (leb t.least t.counted) (leb t.least (rows_left t)) y))))
 
     -- a scored row takes its cut if that is supported and better
-    after_offer : (g : Bool) → Started t g → T (not (g && eq t.previous (value_of s c r)))
+    after_offer : (p : Option Float) → Started t p → T (not (repeated p (value_of s c r)))
         → best_after t c (value_of s c r)
-        ≡ pick ((g && not (eq t.previous (value_of s c r))) && supported t) (better t.best (split_at t c (value_of s c r))) t.best
+        ≡ pick (starts p (value_of s c r) && supported t) (better t.best (split_at t c (value_of s c r))) t.best
     unfolding best_after verdict_of better split_by
-    after_offer false e n =
+    after_offer None e n =
         pick_and (supported t) (ltb t.best.score (total_of t)) _ _ ∙ pick_false (supported t) _ _ (unsupported e) ∙ sym (pick_false false _ _ tt)
-    after_offer true e n =
+    after_offer (Some p) e n =
         pick_and (supported t) (ltb t.best.score (total_of t)) _ _
-        ∙ sym (pick_and (not (eq t.previous (value_of s c r))) (supported t) _ _ ∙ pick_true (not (eq t.previous (value_of s c r))) _ _ n)
+        ∙ sym (pick_and (not (eq p (value_of s c r))) (supported t) _ _ ∙ pick_true (not (eq p (value_of s c r))) _ _ n)
 
     -- a row that is only counted passes over nothing better
     quiet_keeps : T (quiet t (value_of s c r)) → first_best t.best (offers t (r ∷ rs)) ≡ first_best t.best (offers (next s c r t) rs)
     unfolding quiet pure_from first_best
     quiet_keeps q =
         ap (first_best t.best) (offers_step r rs t)
-        ∙ either (t.started && eq t.previous (value_of s c r)) (ltb 0 (fallen t.skip)) q
+        ∙ either (repeated t.previous (value_of s c r)) (ltb 0 (fallen t.skip)) q
         (λ z. ap (first_best t.best)
-        (pick_false (offered r t) _ _ (nand_left (starts t (value_of s c r)) (supported t) (repeats t.started (eq t.previous (value_of s c r)) z))
-        ∙ pick_false (pure_from t (value_of s c r)) _ _ (nand_left (not (t.started && eq t.previous (value_of s c r))) _ (not_not (t.started && eq t.previous (value_of s c r)) z))))
+        (pick_false (offered r t) _ _ (nand_left (starts t.previous (value_of s c r)) (supported t) (repeats t.previous (value_of s c r) z))
+        ∙ pick_false (pure_from t (value_of s c r)) _ _ (nand_left (not (repeated t.previous (value_of s c r))) _ (not_not (repeated t.previous (value_of s c r)) z))))
         (λ z. let w : total_of t ≤ t.best.score = omega (arith, h.hope (omega (arith, ltb→lt 0 (fallen t.skip) z)), ltb→lt 0 (fallen t.skip) z) in
         pick_move (offered r t) t.best (split_at t c (value_of s c r)) (on r rs t)
         ∙ ap (λ x. first_best x (on r rs t))
@@ -132,20 +132,20 @@ module _ (s : Sheet) (c : ℕ) (b0 : Best) where
         (better_low t.best (split_at t c (value_of s c r)) (omega (arith, split_score t c (value_of s c r)))))
         ∙ by_test (λ x. first_best t.best x ≡ first_best t.best (offers (next s c r t) rs)) (pure_from t (value_of s c r))
         (λ l. sym (first_low t.best (offers (next s c r t) rs) (pure_low r rs t t.best.score h.fits w
-        (eqb→eq _ _ (and_right (not (t.started && eq t.previous (value_of s c r))) _ l)))))
+        (eqb→eq _ _ (and_right (not (repeated t.previous (value_of s c r))) _ l)))))
         (λ _. refl))
 
     -- a scored row: what it takes, and whether its cut is the last
-    scored_keeps : Started t t.started → T (not (quiet t (value_of s c r)))
+    scored_keeps : Started t t.previous → T (not (quiet t (value_of s c r)))
         → first_best t.best (offers t (r ∷ rs)) ≡ first_best (best_after t c (value_of s c r)) (pick (eqb (right_best t) (rows_left t)) [] (offers (next s c r t) rs))
     unfolding quiet pure_from
     scored_keeps y q =
-        let n : T (not (t.started && eq t.previous (value_of s c r))) = nor_left (t.started && eq t.previous (value_of s c r)) (ltb 0 (fallen t.skip)) q in
+        let n : T (not (repeated t.previous (value_of s c r))) = nor_left (repeated t.previous (value_of s c r)) (ltb 0 (fallen t.skip)) q in
         ap (first_best t.best) (offers_step r rs t)
         ∙ pick_move (offered r t) t.best (split_at t c (value_of s c r)) (on r rs t)
-        ∙ ap (λ x. first_best x (on r rs t)) (sym (after_offer t.started y n))
+        ∙ ap (λ x. first_best x (on r rs t)) (sym (after_offer t.previous y n))
         ∙ ap (first_best (best_after t c (value_of s c r)))
-        (pick_and_true (not (t.started && eq t.previous (value_of s c r))) (eqb (right_best t) (rows_left t)) [] (offers (next s c r t) rs) n)
+        (pick_and_true (not (repeated t.previous (value_of s c r))) (eqb (right_best t) (rows_left t)) [] (offers (next s c r t) rs) n)
 
     -- if it closes because few rows are left
     far_low : T (not (quiet t (value_of s c r))) → rows_left t ≤ skip_after t → Low (best_after t c (value_of s c r)).score (offers (next s c r t) rs)
@@ -169,7 +169,7 @@ module _ (s : Sheet) (c : ℕ) (b0 : Best) where
     unfolding verdict_of
     open_keeps n = pick_false (eqb (right_best t) (rows_left t)) _ _ (nor_left (eqb (right_best t) (rows_left t)) (leb (rows_left t) (skip_after t)) n)
 
-  pub every_rows : (rs : List ℕ) (t : SideScan) → 1 ≤ t.least → T (not t.closed) → Open s rs t → Started t t.started
+  pub every_rows : (rs : List ℕ) (t : SideScan) → 1 ≤ t.least → T (not t.closed) → Open s rs t → Started t t.previous
       → (through s c rs t).best ≡ first_best t.best (offers t rs)
   unfolding through only_counted scored count_row
   every_rows [] t some n h y = unfold first_best in sym (ap (first_best t.best) (offers_none t))

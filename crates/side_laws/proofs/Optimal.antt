@@ -3,10 +3,11 @@
 use mathlib.Core.Path.{◌≡◌, refl, sym, ap, subst}
 use Prim.Native.Nat.{ℕ, zero, suc, ◌+◌, ◌≤◌, ◌<◌}
 use native.Mathlib.Omega.{arith}
-use mathlib.Core.Bool.{Bool, true, false, not, ◌&&◌}
+use mathlib.Core.Bool.{Bool, not}
 use mathlib.Core.List.{List, [], ◌∷◌}
 use lib.ListN.{get_or}
 use lib.Ieee.{Float, eq}
+use Rattle.std.specs.Prelude.{Option, Some, None}
 use lib.Dec.{T, eqb, eqb→eq}
 use Rattle.basics.specs.Lists.{All, those}
 use Rattle.basics.proofs.Choice.{by_test, order, reach}
@@ -29,7 +30,7 @@ use Rattle.side_scan.proofs.Commonest.{most}
 use Rattle.leaves_score.proofs.Counts.{fits_step, later_is}
 use Rattle.leaves_score.proofs.Live.{own_at_lem, owns_start, owns_cleared, start_fits}
 use Rattle.side_laws.specs.Alone.{column_alone, columns_alone, alone, side_alone}
-use Rattle.side_laws.specs.First.{better, first_best}
+use Rattle.side_laws.specs.First.{starts, better, first_best}
 use Rattle.side_laws.specs.Opt.{mistakes, Proper, Opt, SideOptimal}
 use Rattle.side_laws.proofs.Tests.{not_not→}
 use Rattle.side_laws.proofs.Decouple.{owns_column, decouples}
@@ -38,7 +39,7 @@ use Rattle.side_laws.proofs.Fair.{key_of, alike}
 use Rattle.side_laws.proofs.Past.{sent, kept, Between, Known, Past, past_step, past_cleared, left_tally, right_tally}
 use Rattle.side_laws.proofs.Told.{part_wrong, leaf_count}
 use Rattle.side_laws.proofs.Sides.{left_wrong_is, right_wrong_is, wrong_rows, alone_told, errors_add_up}
-use Rattle.side_laws.proofs.Best.{starts, split_score, better_mine, better_other, first_ge}
+use Rattle.side_laws.proofs.Best.{split_score, better_mine, better_other, first_ge}
 use Rattle.side_laws.proofs.First.{cuts, cuts_none, cuts_step}
 use Rattle.side_laws.proofs.Mistakes.{leaf_mistakes, split_mistakes, told_mistakes, told_proper}
 use Rattle.side_laws.proofs.Columns.{column_first, column_ge, columns_ge, start_score}
@@ -57,13 +58,13 @@ module _ (s : Sheet) (sound : Sound s) (support : ℕ) (mine : ℕ → Bool) whe
 
   module _ (c k a b : ℕ) (here : c < s.columns) (ha : a < s.labels) (hb : b < s.labels) (b0 : Best) where
     -- the previous value, if there is one, is not past the key
-    abbrev Till : Bool → Float → Type 0
-    Till false p = Unit {0}
-    Till true p = key p ≤ k
+    abbrev Till : Option Float → Type 0
+    Till None = Unit {0}
+    Till (Some p) = key p ≤ k
 
-    all_till : (done rest : List ℕ) (g : Bool) (p : Float) → Between s c done rest g p → Till g p → All (λ r. key_of s c r ≤ k) done
-    all_till done rest false p h g = all_map (λ r. ⊥) (λ r. key_of s c r ≤ k) (λ r y. absurd y) done h
-    all_till done rest true p h g = all_map (λ r. key_of s c r ≤ key p) (λ r. key_of s c r ≤ k) (λ r y. omega arith) done h.0
+    all_till : (done rest : List ℕ) (p : Option Float) → Between s c done rest p → Till p → All (λ r. key_of s c r ≤ k) done
+    all_till done rest None h g = all_map (λ r. ⊥) (λ r. key_of s c r ≤ k) (λ r y. absurd y) done h
+    all_till done rest (Some p) h g = all_map (λ r. key_of s c r ≤ key p) (λ r. key_of s c r ≤ k) (λ r y. omega arith) done h.0
 
     module _ (done rest : List ℕ) (t : SideScan) (past : Past s mine c done rest t) (fits : Fits s rest t) (owns : Owns s support mine t) where
       a_in : a < t.labels
@@ -128,9 +129,9 @@ module _ (s : Sheet) (sound : Sound s) (support : ℕ) (mine : ℕ → Bool) whe
     empty (r ∷ rs) h = absurd h.0
 
     -- the first row past the key has no cut before it: it is the first row
-    no_cut : (g : Bool) (p : Float) (r : ℕ) → r < s.rows → Known s c g p → Till g p → k < key_of s c r → T (not (g && not (eq p (value_of s c r)))) → g ≡ false
-    no_cut false p r i w h l n = refl
-    no_cut true p r i w h l n =
+    no_cut : (p : Option Float) (r : ℕ) → r < s.rows → Known s c p → Till p → k < key_of s c r → T (not (starts p (value_of s c r))) → p ≡ None
+    no_cut None r i w h l n = refl
+    no_cut (Some p) r i w h l n =
         absurd (omega (
           arith,
           ap key w.2,
@@ -138,19 +139,19 @@ module _ (s : Sheet) (sound : Sound s) (support : ℕ) (mine : ℕ → Bool) whe
         ))
 
     -- the question gets no more right than the first best
-    pub question_low : (rs done : List ℕ) (t : SideScan) (w : Best) → Past s mine c done rs t → Fits s rs t → Owns s support mine t → Till t.started t.previous
+    pub question_low : (rs done : List ℕ) (t : SideScan) (w : Best) → Past s mine c done rs t → Fits s rs t → Owns s support mine t → Till t.previous
         → leaf_count s mine ≤ w.score → rows_at s mine ≤ asked s mine c k a b + (first_best w (cuts s c b0 t rs)).score
     unfolding first_best
     question_low [] done t w past fits owns till g =
-        rw (cuts_none s c b0 t) (omega (arith, at_end done t past fits owns (all_till done [] t.started t.previous past.between till)))
+        rw (cuts_none s c b0 t) (omega (arith, at_end done t past fits owns (all_till done [] t.previous past.between till)))
     question_low (r ∷ rs) done t w past fits owns till g =
         rw (cuts_step s c b0 r rs t)
         (order (key_of s c r) k
-        (λ l. by_test (λ z. rows_at s mine ≤ asked s mine c k a b + (first_best w z).score) (starts t (value_of s c r))
+        (λ l. by_test (λ z. rows_at s mine ≤ asked s mine c k a b + (first_best w z).score) (starts t.previous (value_of s c r))
         (λ _. question_low rs (r ∷ done) next (better w (split_at t c (value_of s c r))) next_past next_fits next_owns (next_till l)
         (omega (arith, better_mine w (split_at t c (value_of s c r)))))
         (λ _. question_low rs (r ∷ done) next w next_past next_fits next_owns (next_till l) g))
-        (λ l. by_test (λ z. rows_at s mine ≤ asked s mine c k a b + (first_best w z).score) (starts t (value_of s c r))
+        (λ l. by_test (λ z. rows_at s mine ≤ asked s mine c k a b + (first_best w z).score) (starts t.previous (value_of s c r))
         (λ _. omega (
           arith,
           at_total done (r ∷ rs) t past fits owns low (high l),
@@ -161,7 +162,7 @@ module _ (s : Sheet) (sound : Sound s) (support : ℕ) (mine : ℕ → Bool) whe
         (λ n. omega (
           arith,
           first_ge w (cuts s c b0 next rs),
-          start (high l) (no_cut t.started t.previous r past.within.0 past.known till l n),
+          start (high l) (no_cut t.previous r past.within.0 past.known till l n),
         ))))
       where
         next : SideScan
@@ -170,7 +171,7 @@ module _ (s : Sheet) (sound : Sound s) (support : ℕ) (mine : ℕ → Bool) whe
         next_past : Past s mine c (r ∷ done) rs next
         next_past =
             unfold only_counted count_row in
-            past_step s mine c sound.limited.labels_most done rs t.seen t.counted r t.started t.previous fits.long past
+            past_step s mine c sound.limited.labels_most done rs t.seen t.counted r t.previous fits.long past
 
         next_fits : Fits s rs next
         next_fits = unfold only_counted in fits_step s r rs t fits t.best (fallen t.skip) t.closed (value_of s c r)
@@ -178,19 +179,19 @@ module _ (s : Sheet) (sound : Sound s) (support : ℕ) (mine : ℕ → Bool) whe
         next_owns : Owns s support mine next
         next_owns = unfold only_counted count_row in owns
 
-        next_till : key_of s c r ≤ k → Till next.started next.previous
+        next_till : key_of s c r ≤ k → Till next.previous
         next_till l = unfold only_counted count_row in l
 
         low : All (λ x. key_of s c x ≤ k) done
-        low = all_till done (r ∷ rs) t.started t.previous past.between till
+        low = all_till done (r ∷ rs) t.previous past.between till
 
         high : k < key_of s c r → All (λ x. k < key_of s c x) (r ∷ rs)
         high l = (l, all_map (λ x. key_of s c r ≤ key_of s c x) (λ x. k < key_of s c x) (λ x i. omega arith) rs past.ascending.0)
 
-        start : All (λ x. k < key_of s c x) (r ∷ rs) → t.started ≡ false → rows_at s mine ≤ asked s mine c k a b + leaf_count s mine
+        start : All (λ x. k < key_of s c x) (r ∷ rs) → t.previous ≡ None → rows_at s mine ≤ asked s mine c k a b + leaf_count s mine
         start h q =
             at_start (r ∷ rs) t
-            (subst (λ (d : List ℕ). Past s mine c d (r ∷ rs) t) (empty done (subst (λ (g : Bool). Between s c done (r ∷ rs) g t.previous) q past.between)) past) fits owns h
+            (subst (λ (d : List ℕ). Past s mine c d (r ∷ rs) t) (empty done (subst (λ (p : Option Float). Between s c done (r ∷ rs) p) q past.between)) past) fits owns h
 
 -- ---- all columns
 

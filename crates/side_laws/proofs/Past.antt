@@ -3,10 +3,11 @@
 use mathlib.Core.Path.{◌≡◌, refl}
 use Prim.Native.Nat.{ℕ, ◌+◌, ◌≤◌, ◌<◌}
 use native.Mathlib.Omega.{arith}
-use mathlib.Core.Bool.{Bool, true, false, not, ◌&&◌}
+use mathlib.Core.Bool.{Bool, not, ◌&&◌}
 use mathlib.Core.List.{List, [], ◌∷◌}
 use lib.ListN.{length, get_or}
 use lib.Ieee.{Float}
+use Rattle.std.specs.Prelude.{Option, Some, None}
 use lib.Dec.{T, not_T, leb, eqb, leb→le, le→leb}
 use Rattle.basics.specs.Lists.{All, tally, those}
 use Rattle.basics.proofs.Lists.{all_map, all_those, tally_those}
@@ -41,43 +42,43 @@ kept s c k r = not (leb (key_of s c r) k)
 -- ---- the rows done and the rows to come
 
 -- the previous value lies between what is done and what is to come; where there is none, nothing is done
-abbrev pub Between : Sheet → ℕ → List ℕ → List ℕ → Bool → Float → Type 0
-Between s c done rest false p = All (λ r. ⊥) done
-Between s c done rest true p = All (λ r. key_of s c r ≤ key p) done × All (λ r. key p ≤ key_of s c r) rest
+abbrev pub Between : Sheet → ℕ → List ℕ → List ℕ → Option Float → Type 0
+Between s c done rest None = All (λ r. ⊥) done
+Between s c done rest (Some p) = All (λ r. key_of s c r ≤ key p) done × All (λ r. key p ≤ key_of s c r) rest
 
 -- and it is the value of a row
-abbrev pub Known : Sheet → ℕ → Bool → Float → Type 0
-Known s c false p = Unit {0}
-Known s c true p = (r : ℕ) × (r < s.rows) × (p ≡ value_of s c r)
+abbrev pub Known : Sheet → ℕ → Option Float → Type 0
+Known s c None = Unit {0}
+Known s c (Some p) = (r : ℕ) × (r < s.rows) × (p ≡ value_of s c r)
 
-pub record Passed (s : Sheet) (mine : ℕ → Bool) (c : ℕ) (done rest seen : List ℕ) (counted : ℕ) (started : Bool) (previous : Float) : Type 0 where
+pub record Passed (s : Sheet) (mine : ℕ → Bool) (c : ℕ) (done rest seen : List ℕ) (counted : ℕ) (previous : Option Float) : Type 0 where
   pub parts : (q : ℕ → Bool) → tally q done + tally q rest ≡ tally (λ r. mine r && q r) (every_row s)
   pub rows : counted ≡ length done
   pub befores : (l : ℕ) → l < s.labels → get_or seen l 0 ≡ tally (λ r. eqb (label_of s r) l) done
   pub ascending : Sorted (key_of s c) rest
-  pub between : Between s c done rest started previous
+  pub between : Between s c done rest previous
   pub within : All (λ r. r < s.rows) rest
-  pub known : Known s c started previous
+  pub known : Known s c previous
 
 abbrev pub Past : Sheet → (ℕ → Bool) → ℕ → List ℕ → List ℕ → SideScan → Type 0
-Past s mine c done rest t = Passed s mine c done rest t.seen t.counted t.started t.previous
+Past s mine c done rest t = Passed s mine c done rest t.seen t.counted t.previous
 
-under : (s : Sheet) (c : ℕ) (done rs : List ℕ) (r : ℕ) (b : Bool) (p : Float) → Between s c done (r ∷ rs) b p → All (λ x. key_of s c x ≤ key_of s c r) done
-under s c done rs r false p h = all_map (λ x. ⊥) (λ x. key_of s c x ≤ key_of s c r) (λ x y. absurd y) done h
-under s c done rs r true p h = all_map (λ x. key_of s c x ≤ key p) (λ x. key_of s c x ≤ key_of s c r) (λ x y. omega (arith, h.1.0)) done h.0
+under : (s : Sheet) (c : ℕ) (done rs : List ℕ) (r : ℕ) (p : Option Float) → Between s c done (r ∷ rs) p → All (λ x. key_of s c x ≤ key_of s c r) done
+under s c done rs r None h = all_map (λ x. ⊥) (λ x. key_of s c x ≤ key_of s c r) (λ x y. absurd y) done h
+under s c done rs r (Some p) h = all_map (λ x. key_of s c x ≤ key p) (λ x. key_of s c x ≤ key_of s c r) (λ x y. omega (arith, h.1.0)) done h.0
 
 module _ (s : Sheet) (mine : ℕ → Bool) (c : ℕ) (few : s.labels ≤ most_labels) where
   -- a row counted
-  pub past_step : (done rs seen : List ℕ) (counted r : ℕ) (started : Bool) (p : Float) → length seen ≡ most_labels
-      → Passed s mine c done (r ∷ rs) seen counted started p
-      → Passed s mine c (r ∷ done) rs (raised seen (label_of s r)) (counted + 1) true (value_of s c r)
-  past_step done rs seen counted r started p g h =
+  pub past_step : (done rs seen : List ℕ) (counted r : ℕ) (p : Option Float) → length seen ≡ most_labels
+      → Passed s mine c done (r ∷ rs) seen counted p
+      → Passed s mine c (r ∷ done) rs (raised seen (label_of s r)) (counted + 1) (Some (value_of s c r))
+  past_step done rs seen counted r p g h =
       record {
         parts = λ q. omega (arith, h.parts q);
         rows = omega (arith, h.rows);
         befores = λ l k. omega (arith, h.befores l k, raised_at seen (label_of s r) l (omega arith));
         ascending = h.ascending.1;
-        between = ((omega arith, under s c done rs r started p h.between), h.ascending.0);
+        between = ((omega arith, under s c done rs r p h.between), h.ascending.0);
         within = h.within.1;
         known = (r, h.within.0, refl);
       }

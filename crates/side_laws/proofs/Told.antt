@@ -8,6 +8,7 @@ use mathlib.Core.Bool.{Bool, true, false, not, ◌&&◌}
 use mathlib.Core.List.{List, [], ◌∷◌}
 use lib.ListN.{length, get_or}
 use lib.Ieee.{Float, eq}
+use Rattle.std.specs.Prelude.{Option, Some, None, unwrap_or}
 use lib.Dec.{T, T_not, leb, ltb, eqb, leb→le, ltb→lt, eqb_refl}
 use Rattle.basics.specs.Choice.{bit}
 use Rattle.basics.specs.Lists.{All, tally, those}
@@ -21,9 +22,9 @@ use Rattle.sheet.specs.Rows.{rows_at}
 use Rattle.side_scan.specs.declared.SideScan.{SideScan}
 use Rattle.side_scan.specs.declared.cut_score.Best.{Best}
 use Rattle.side_scan.specs.Commonest.{commonest, most_of}
-use Rattle.side_scan.specs.Scored.{fallen, verdict_of, split_by}
+use Rattle.side_scan.specs.Scored.{fallen, repeated, verdict_of, split_by}
 use Rattle.side_scan.specs.Counts.{peaks_of}
-use Rattle.side_scan.specs.OneSide.{restarted, quiet, counted_of, later, rows_left, left_best, right_best, total_of, supported, takes, split_at, best_after, count_row, only_counted, scored}
+use Rattle.side_scan.specs.OneSide.{nought, restarted, quiet, counted_of, later, rows_left, left_best, right_best, total_of, supported, takes, split_at, best_after, count_row, only_counted, scored}
 use Rattle.leaves_score.specs.Column.{own_of, side_at_start, through}
 use Rattle.leaves_score.specs.Kept.{Owns, Fits, Live}
 use Rattle.side_scan.proofs.Commonest.{commonest_in}
@@ -93,10 +94,10 @@ no_rows (x ∷ xs) h k = h.0
 module _ (s : Sheet) (sound : Sound s) (support : ℕ) (mine : ℕ → Bool) (c : ℕ) (here : c < s.columns) where
   module _ (done rs : List ℕ) (r : ℕ) (t : SideScan) (past : Past s mine c done (r ∷ rs) t) (fits : Fits s (r ∷ rs) t) (owns : Owns s support mine t) where
     -- a supported cut has a previous value, and it lies below
-    prior : (b : Bool) (p : Float) → Between s c done (r ∷ rs) b p → Known s c b p → 1 ≤ length done → T (not (b && eq p (value_of s c r)))
-        → (y : ℕ) × (y < s.rows) × (p ≡ value_of s c y) × (key_of s c y < key_of s c r) × All (λ x. key_of s c x ≤ key_of s c y) done
-    prior false p b w h n = absurd (no_rows done b h)
-    prior true p b w h n =
+    prior : (p : Option Float) → Between s c done (r ∷ rs) p → Known s c p → 1 ≤ length done → T (not (repeated p (value_of s c r)))
+        → (y : ℕ) × (y < s.rows) × (unwrap_or p nought ≡ value_of s c y) × (key_of s c y < key_of s c r) × All (λ x. key_of s c x ≤ key_of s c y) done
+    prior None b w h n = absurd (no_rows done b h)
+    prior (Some p) b w h n =
         let k : key p ≡ key_of s c w.0 = ap key w.2 in (
           w.0,
           w.1,
@@ -154,13 +155,13 @@ module _ (s : Sheet) (sound : Sound s) (support : ℕ) (mine : ℕ → Bool) (c 
           );
         }
 
-    cut_taken : T (supported t) → T (not (t.started && eq t.previous (value_of s c r))) → leaf_count s mine < total_of t
+    cut_taken : T (supported t) → T (not (repeated t.previous (value_of s c r))) → leaf_count s mine < total_of t
         → Taken s support mine (split_at t c (value_of s c r))
     unfolding split_by peaks_of
     cut_taken y n g =
         let a : least_rows support ≤ t.counted = subst (λ (x : ℕ). x ≤ t.counted) owns.least_is (leb→le _ _ (and_left (leb t.least t.counted) _ y)) in
         let z : least_rows support ≤ rows_left t = subst (λ (x : ℕ). x ≤ rows_left t) owns.least_is (leb→le _ _ (and_right (leb t.least t.counted) _ y)) in
-        let w = prior t.started t.previous past.between past.known (one_least (length done) (subst (λ (x : ℕ). least_rows support ≤ x) past.rows a)) n in
+        let w = prior t.previous past.between past.known (one_least (length done) (subst (λ (x : ℕ). least_rows support ≤ x) past.rows a)) n in
         let left = rows_left_lem s (r ∷ rs) t fits in
         record {
           column_in = here;
@@ -188,7 +189,7 @@ module _ (s : Sheet) (sound : Sound s) (support : ℕ) (mine : ℕ → Bool) (c 
     good_after n g =
         decide (takes t)
         (λ y. subst (Good s support mine) (sym (best_taken t c (value_of s c r) y))
-        (inr (cut_taken (and_left (supported t) _ y) (nor_left (t.started && eq t.previous (value_of s c r)) (ltb 0 (fallen t.skip)) n)
+        (inr (cut_taken (and_left (supported t) _ y) (nor_left (repeated t.previous (value_of s c r)) (ltb 0 (fallen t.skip)) n)
         (omega (
           arith,
           good_leaf s support mine t.best g,
@@ -205,7 +206,7 @@ module _ (s : Sheet) (sound : Sound s) (support : ℕ) (mine : ℕ → Bool) (c 
   rows_good (r ∷ rs) done t h p o g =
       decide t.closed
       (λ y. subst (λ (x : SideScan). Good s support mine x.best) (sym (ap (through s c rs) (step_closed t c (label_of s r) (value_of s c r) y) ∙ shut s c rs t y)) g)
-      (λ n. let q = past_step s mine c sound.limited.labels_most done rs t.seen t.counted r t.started t.previous (h n).fits.long (p n) in
+      (λ n. let q = past_step s mine c sound.limited.labels_most done rs t.seen t.counted r t.previous (h n).fits.long (p n) in
       step_open t (λ x. Good s support mine (through s c rs x).best) c (label_of s r) (value_of s c r) n
       (λ _. rows_good rs (r ∷ done) (only_counted t (label_of s r) (value_of s c r)) (λ _. open_counted s c r rs t (h n)) (λ _. q) o g)
       (λ m. rows_good rs (r ∷ done) (scored t c (label_of s r) (value_of s c r)) (λ _. open_scored s c r rs t m (h n)) (λ _. q) o

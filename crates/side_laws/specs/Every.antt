@@ -4,26 +4,26 @@
 use Rattle.std.specs.Prelude.{◌≡◌, ℕ, zero, suc, Bool, not, ◌&&◌, List, [], ◌∷◌, ◌++◌, eqb, Float}
 use Rattle.basics.specs.Choice.{pick}
 use Rattle.basics.specs.Lists.{those}
-use Rattle.threshold.specs.Order.{same_value}
 use Rattle.sheet.specs.Sheet.{Sheet, value_of, label_of, order_of}
 use Rattle.sheet.specs.Sound.{Sound}
 use Rattle.side_scan.specs.declared.SideScan.{SideScan}
 use Rattle.side_scan.specs.declared.cut_score.Best.{Best}
+use Rattle.side_scan.specs.Scored.{repeated}
 use Rattle.side_scan.specs.OneSide.{rows_left, right_best, supported, split_at, only_counted}
 use Rattle.leaves_score.specs.Column.{side_at_start}
 use Rattle.side_laws.specs.Alone.{alone}
-use Rattle.side_laws.specs.First.{first_best}
+use Rattle.side_laws.specs.First.{starts, first_best}
 
 -- all rows from here on have one label, where a value starts
 unfoldable pub pure_from : SideScan → Float → Bool
-pure_from t v = not (t.started && same_value t.previous v) && eqb (right_best t) (rows_left t)
+pure_from t v = not (repeated t.previous v) && eqb (right_best t) (rows_left t)
 
 unfoldable pub offers_from : Sheet → ℕ → SideScan → List ℕ → List Best
 offers_from s c t [] = []
 offers_from s c t (r ∷ rs) =
     let rest : List Best = offers_from s c (only_counted t (label_of s r) (value_of s c r)) rs in
     let on : List Best = pick (pure_from t (value_of s c r)) [] rest in
-    pick ((t.started && not (same_value t.previous (value_of s c r))) && supported t) (split_at t c (value_of s c r) ∷ on) on
+    pick (starts t.previous (value_of s c r) && supported t) (split_at t c (value_of s c r) ∷ on) on
 
 -- those of column c, and of n columns from c on
 unfoldable pub offers_of : Sheet → ℕ → (ℕ → Bool) → ℕ → List Best

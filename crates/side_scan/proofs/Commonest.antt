@@ -1,15 +1,18 @@
 -- The running maximum of the labels' counts, begun at minus one, is the commonest label's count from the first label on: any count beats minus one, and then
 -- the two change at the same labels. Assumes nothing.
-use mathlib.Core.Path.{◌≡◌, refl, ap, ◌∙◌}
+use mathlib.Core.Path.{◌≡◌, refl, ap, ap₂, ◌∙◌}
 use Prim.Native.Nat.{ℕ, zero, suc, ◌+◌, ◌≤◌, ◌<◌}
 use native.Mathlib.Omega.{arith}
 use mathlib.Core.Bool.{Bool, true, false}
-use lib.Dec.{ltb}
+use lib.Dec.{ltb, le→leb}
 use lib.IntN.{pos}
-use lib.Signed.{lt_z}
+use lib.Signed.{lt_z, ◌≤ℤ◌}
 use Rattle.basics.specs.Choice.{pick}
 use Rattle.basics.proofs.Choice.{by_ltb, reach}
-use Rattle.side_scan.specs.Commonest.{commonest, most_of, Run, run_to, Ran}
+use Rattle.side_scan.specs.declared.best_counts.Peak.{Peak}
+use Rattle.side_scan.specs.declared.best_counts.Run.{Run}
+use Rattle.side_scan.specs.Counts.{peak_by}
+use Rattle.side_scan.specs.Commonest.{commonest, most_of, run_to, Ran}
 
 abbrev at : (ℕ → ℕ) → ℕ → Run
 at f l = record { score = pos (f l); label = l }
@@ -62,3 +65,18 @@ most_near f g n d h k = omega (arith, at, k (commonest g n) (commonest_in g n h)
 pub most_under : (f : ℕ → ℕ) (n d : ℕ) → 1 ≤ n → ((l : ℕ) → l < n → f l ≤ d) → most_of f n ≤ d
 unfolding most_of
 most_under f n d h k = k (commonest f n) (commonest_in f n h)
+
+-- after all labels the running maximum is the commonest label's count
+module _ (f : ℕ → ℕ) (n i : ℕ) (r : Run) (some : 1 ≤ n) (all : i ≡ n) (e : r ≡ run_to f i) where
+  ran_is : r ≡ record { score = pos (most_of f n); label = commonest f n }
+  ran_is = e ∙ ap (run_to f) all ∙ ran f n some
+
+  pub not_below : pos 0 ≤ℤ r.score
+  not_below = rw ran_is (record { le = le→leb 0 (most_of f n) (omega arith) })
+
+  pub peak_is : (p : Peak) → p.label ≡ r.label → pos p.count ≡ r.score → p ≡ peak_by f n
+  peak_is p l c =
+      let q = ran_is in
+      let label : p.label ≡ commonest f n = cc in
+      let count : p.count ≡ most_of f n = cc in
+      let both : p ≡ peak_by f n = ap₂ (λ (x y : ℕ). record { label = x; count = y }) label count in both

@@ -1,6 +1,5 @@
-pub mod Steps
 pub mod Leaf
 pub mod Commonest
-pub mod Running
 pub mod LeafLabel
-pub mod Judged
+pub mod Peaks
+pub mod Steps

@@ -15,15 +15,14 @@ counted seen l = get_or seen l 0
 abbrev pub coming : List ℕ → List ℕ → ℕ → ℕ
 coming own seen l = get_or own l 0 - get_or seen l 0
 
+-- the commonest of the labels, and its count
+abbrev pub peak_by : (ℕ → ℕ) → ℕ → Peak
+peak_by f labels = record { label = commonest f labels; count = most_of f labels }
+
 -- "best count before" and "best count from here on", with their labels
 unfoldable pub peaks_of : List ℕ → List ℕ → ℕ → Peaks
 peaks_of own seen labels =
-    record {
-      before = most_of (counted seen) labels;
-      left = commonest (counted seen) labels;
-      after = most_of (coming own seen) labels;
-      right = commonest (coming own seen) labels;
-    }
+    record { before = peak_by (counted seen) labels; after = peak_by (coming own seen) labels }
 
 -- there are labels, 32 at most, and no more rows of a label are counted than the side has
 pub record Countable (own seen : List ℕ) (labels : ℕ) : Type 0 where
@@ -33,4 +32,4 @@ pub record Countable (own seen : List ℕ) (labels : ℕ) : Type 0 where
 
 -- the commonest label of all rows, and its count
 unfoldable pub peak_of : List ℕ → ℕ → Peak
-peak_of own labels = record { label = commonest (counted own) labels; count = most_of (counted own) labels }
+peak_of own labels = peak_by (counted own) labels

@@ -1,6 +1,6 @@
 -- For a signer. The scan of one side of a root split (document 01, "Scan of the two sides"): its leaf, what a row does to it, and the side that it ends in;
 -- over the record that the code keeps. Definitions only.
-use Rattle.std.specs.Prelude.{ℕ, ◌+◌, ◌-◌, Bool, true, false, List, get_or, set, eqb, pos, Float}
+use Rattle.std.specs.Prelude.{ℕ, ◌+◌, ◌-◌, Bool, false, List, get_or, set, eqb, pos, Float, Some, None, unwrap_or}
 use Rattle.std.specs.Float.{fin}
 use Rattle.basics.specs.Choice.{pick}
 use Rattle.tree.specs.declared.Side.{Side}
@@ -55,8 +55,7 @@ at_start own size labels least best =
       counted = 0;
       skip = 0;
       closed = false;
-      started = false;
-      previous = nought;
+      previous = None;
     }
 
 unfoldable pub restarted : SideScan → SideScan
@@ -66,7 +65,7 @@ restarted t = at_start t.own t.size t.labels t.least t.best
 
 -- whether the row is only counted
 unfoldable pub quiet : SideScan → Float → Bool
-quiet t value = quiet_by t.started t.previous value (fallen t.skip)
+quiet t value = quiet_by t.previous value (fallen t.skip)
 
 -- rows of label l counted so far, and those from here on
 abbrev pub counted_of : SideScan → ℕ → ℕ
@@ -86,15 +85,16 @@ peaks_at t = peaks_of t.own t.seen t.labels
 abbrev pub verdict_at : SideScan → CutVerdict
 verdict_at t = verdict_of (peaks_at t) t.counted (rows_left t) t.least t.best.score (fallen t.skip)
 
+-- a side's first row has no previous value, and the cut before it is never taken, since it leaves no row before it
 abbrev pub split_at : SideScan → ℕ → Float → Best
-split_at t column value = split_by (peaks_at t) t.counted (rows_left t) column t.previous value
+split_at t column value = split_by (peaks_at t) t.counted (rows_left t) column (unwrap_or t.previous nought) value
 
 -- the words that the laws of the scan use for their parts
 abbrev pub left_best : SideScan → ℕ
-left_best t = (peaks_at t).before
+left_best t = (peaks_at t).before.count
 
 abbrev pub right_best : SideScan → ℕ
-right_best t = (peaks_at t).after
+right_best t = (peaks_at t).after.count
 
 abbrev pub total_of : SideScan → ℕ
 total_of t = left_best t + right_best t
@@ -130,9 +130,14 @@ count_row t best skip closed label value =
       counted = t.counted + 1;
       skip = skip;
       closed = closed;
-      started = true;
-      previous = value;
+      previous = Some value;
     }
+
+-- the cut before a row scored, where skip has fallen already; the row is still to be counted
+abbrev pub cut_scored : SideScan → ℕ → Float → SideScan
+cut_scored t column value =
+    let v : CutVerdict = verdict_of (peaks_at t) t.counted (rows_left t) t.least t.best.score t.skip in
+    record t { best = pick v.taken (split_at t column value) t.best; skip = v.skip; closed = v.closed }
 
 unfoldable pub only_counted : SideScan → ℕ → Float → SideScan
 only_counted t label value = count_row t t.best (fallen t.skip) t.closed label value

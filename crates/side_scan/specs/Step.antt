@@ -6,17 +6,21 @@ use Rattle.side_scan.specs.Commonest.{most_of}
 use Rattle.side_scan.specs.Counts.{counted}
 use Rattle.side_scan.specs.OneSide.{leaf_best, at_start, counted_of, later, rows_left}
 
--- a side that can take one more row, of that label
-pub record Ready (t : SideScan) (label : ℕ) : Type 0 where
+-- a side that can take one more row
+pub record Cuttable (t : SideScan) : Type 0 where
   pub some : 1 ≤ t.labels
   pub few : t.labels ≤ most_labels
-  pub coded : label < t.labels
   pub more : t.counted < t.size
   pub small : t.size ≤ most_rows
   -- a label's rows counted are among the side's own, and among all counted; its rows to come are among all to come
   pub own : (l : ℕ) → l < t.labels → counted_of t l ≤ get_or t.own l 0
   pub seen : (l : ℕ) → l < t.labels → counted_of t l ≤ t.counted
   pub left : (l : ℕ) → l < t.labels → later t l ≤ rows_left t
+
+-- and of that label
+pub record Ready (t : SideScan) (label : ℕ) : Type 0 where
+  pub cut : Cuttable t
+  pub coded : label < t.labels
 
 -- a closed side takes any row, and stays as it is
 abbrev pub Steppable : SideScan → ℕ → Type 0

@@ -1,18 +1,10 @@
 // The best counts of a side's labels: before a cut and from it on, and over all of its rows.
-ghost use Rattle.std.specs.Prelude.{◌≡◌, ◌≤◌, pos};
+ghost use Rattle.std.specs.Prelude.{◌≡◌, ◌≤◌, ◌≤ℤ◌, pos};
 ghost use Rattle.sheet.specs.Limits.{most_labels};
+ghost use Rattle.side_scan.specs.Commonest.{no_label, run_on};
 ghost use Rattle.side_scan.specs.Counts.{Countable, peaks_of, peak_of};
 
 use sheet::MOST_LABELS;
-
-// The best counts of the labels before a cut and from it on, and the labels that have them.
-#[derive(Clone, Copy)]
-pub struct Peaks {
-    pub before: u32,
-    pub left: usize,
-    pub after: u32,
-    pub right: usize,
-}
 
 // A label, and how many rows it has.
 #[derive(Clone, Copy)]
@@ -21,13 +13,50 @@ pub struct Peak {
     pub count: u32,
 }
 
-fn signed(count: u16) -> i32
-    ensures { result ≡ pos count }
-{
-    count as i32
+// The best counts of the labels before a cut and from it on.
+#[derive(Clone, Copy)]
+pub struct Peaks {
+    pub before: Peak,
+    pub after: Peak,
 }
 
-// Both running maxima begin at -1, so that the first label is taken even where it has no rows.
+// A running maximum over the labels' counts: the greatest so far, and the first label that has it.
+#[derive(Clone, Copy)]
+pub struct Run {
+    pub score: i32,
+    pub label: usize,
+}
+
+// It begins below every count, so that the first label is taken even where it has no rows.
+const NO_LABEL: Run = Run {
+    score: -1,
+    label: 0,
+};
+
+impl Run {
+    fn and(self, label: usize, count: u16) -> Run
+        ensures { result ≡ run_on self label count }
+    {
+        let score = i32::from(count);
+        if score > self.score {
+            Run { score, label }
+        } else {
+            self
+        }
+    }
+
+    fn peak(self) -> Peak
+        requires { pos 0 ≤ℤ self.score }
+        ensures same_label { result.label ≡ self.label }
+        ensures same_count { pos result.count ≡ self.score }
+    {
+        Peak {
+            label: self.label,
+            count: self.score as u32,
+        }
+    }
+}
+
 pub(crate) fn find_peaks(
     own: &[u16; MOST_LABELS],
     seen: &[u16; MOST_LABELS],
@@ -36,31 +65,15 @@ pub(crate) fn find_peaks(
     requires { Countable own.now seen.now labels }
     ensures { result ≡ peaks_of own.now seen.now labels }
 {
-    let mut before: i32 = -1;
-    let mut left: usize = 0;
-    let mut after: i32 = -1;
-    let mut right: usize = 0;
-    let mut label: usize = 0;
-    while label < labels {
-        let counted = signed(seen[label]);
-        let coming = signed(own[label] - seen[label]);
-        if counted > before {
-            before = counted;
-            left = label;
-        }
-        if coming > after {
-            after = coming;
-            right = label;
-        }
-        label += 1;
+    let mut before = NO_LABEL;
+    let mut after = NO_LABEL;
+    for label in 0..labels {
+        before = before.and(label, seen[label]);
+        after = after.and(label, own[label] - seen[label]);
     }
-    let first = before as u32;
-    let second = after as u32;
     Peaks {
-        before: first,
-        left,
-        after: second,
-        right,
+        before: before.peak(),
+        after: after.peak(),
     }
 }
 
@@ -69,10 +82,5 @@ pub(crate) fn commonest_label(own: &[u16; MOST_LABELS], labels: usize) -> Peak
     requires { (1 ≤ labels) × (labels ≤ most_labels) }
     ensures { result ≡ peak_of own.now labels }
 {
-    let none: [u16; MOST_LABELS] = [0; MOST_LABELS];
-    let peaks = find_peaks(own, &none, labels);
-    Peak {
-        label: peaks.right,
-        count: peaks.after,
-    }
+    find_peaks(own, &[0; MOST_LABELS], labels).after
 }

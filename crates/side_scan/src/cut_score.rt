@@ -1,7 +1,7 @@
 // One cut of a side scored, by numbers: which rows are only counted, what the cut comes to, and the split that it makes.
 ghost use Rattle.std.specs.Prelude.{◌≡◌, ◌+◌, ◌-◌, ◌≤◌};
 ghost use Rattle.sheet.specs.Limits.{most_rows};
-ghost use Rattle.side_scan.specs.Scored.{fallen, repeated, quiet_by, taken_by, closed_by, verdict_of, split_by};
+ghost use Rattle.side_scan.specs.Scored.{repeated, quiet_by, taken_by, closed_by, verdict_of, split_by};
 
 use crate::best_counts::Peaks;
 use tree::{Leaf, Question};
@@ -24,48 +24,30 @@ pub struct CutVerdict {
     pub closed: bool,
 }
 
-pub fn fall(skip: u32) -> u32
-    ensures { result ≡ fallen skip }
-{
-    if skip == 0 { 0 } else { skip - 1 }
-}
-
 // A side's first row has no previous value.
-fn is_same(started: bool, previous: f64, value: f64) -> bool
-    ensures { result ≡ repeated started previous value }
+fn is_same(previous: Option<f64>, value: f64) -> bool
+    ensures { result ≡ repeated previous value }
 {
-    if started { previous == value } else { false }
+    previous.is_some_and(|before| before == value)
 }
 
 // So the cut before a side's first row is scored.
-pub fn is_quiet(started: bool, previous: f64, value: f64, skip: u32) -> bool
-    ensures { result ≡ quiet_by started previous value skip }
+pub(crate) fn is_quiet(previous: Option<f64>, value: f64, skip: u32) -> bool
+    ensures { result ≡ quiet_by previous value skip }
 {
-    if is_same(started, previous, value) {
-        return true;
-    }
-    0 < skip
+    is_same(previous, value) || 0 < skip
 }
 
 fn is_taken(counted: u32, rest: u32, least: u32, score: u32, total: u32) -> bool
     ensures { result ≡ taken_by counted rest least score total }
 {
-    if counted < least {
-        return false;
-    }
-    if rest < least {
-        return false;
-    }
-    score < total
+    least <= counted && least <= rest && score < total
 }
 
 fn is_closed(after: u32, rest: u32, skip: u32) -> bool
     ensures { result ≡ closed_by after rest skip }
 {
-    if after == rest {
-        return true;
-    }
-    rest <= skip
+    after == rest || rest <= skip
 }
 
 // The cut before a row, judged by numbers alone: `rest` counts the rows from it on, `skip` has fallen already.
@@ -77,26 +59,21 @@ pub(crate) fn judge_cut(
     score: u32,
     skip: u32,
 ) -> CutVerdict
-    requires { peaks.before + peaks.after ≤ most_rows }
+    requires { peaks.before.count + peaks.after.count ≤ most_rows }
     ensures { result ≡ verdict_of peaks counted rest least score skip }
 {
-    let total = peaks.before + peaks.after;
-    if is_taken(counted, rest, least, score, total) {
-        let closed = is_closed(peaks.after, rest, skip);
-        return CutVerdict {
-            taken: true,
-            total,
-            skip,
-            closed,
-        };
-    }
-    let next = basics::minus_word(score, total);
-    let closed = is_closed(peaks.after, rest, next);
+    let total = peaks.before.count + peaks.after.count;
+    let taken = is_taken(counted, rest, least, score, total);
+    let next = if taken {
+        skip
+    } else {
+        score.saturating_sub(total)
+    };
     CutVerdict {
-        taken: false,
+        taken,
         total,
         skip: next,
-        closed,
+        closed: is_closed(peaks.after.count, rest, next),
     }
 }
 
@@ -109,24 +86,22 @@ pub(crate) fn split_of(
     previous: f64,
     value: f64,
 ) -> Best
-    requires { (peaks.before ≤ counted) × (peaks.after ≤ rest) × (peaks.before + peaks.after ≤ most_rows) }
+    requires some_before { peaks.before.count ≤ counted }
+    requires some_after { peaks.after.count ≤ rest }
+    requires few { peaks.before.count + peaks.after.count ≤ most_rows }
     ensures { result ≡ split_by peaks counted rest column previous value }
 {
     let threshold = threshold::threshold_between(previous, value);
-    let score = peaks.before + peaks.after;
-    let question = Question { column, threshold };
-    let left = Leaf {
-        label: peaks.left,
-        error: counted - peaks.before,
-    };
-    let right = Leaf {
-        label: peaks.right,
-        error: rest - peaks.after,
-    };
     Best {
-        score,
-        question,
-        left,
-        right,
+        score: peaks.before.count + peaks.after.count,
+        question: Question { column, threshold },
+        left: Leaf {
+            label: peaks.before.label,
+            error: counted - peaks.before.count,
+        },
+        right: Leaf {
+            label: peaks.after.label,
+            error: rest - peaks.after.count,
+        },
     }
 }

@@ -4,19 +4,19 @@
 pub mod best_counts;
 pub mod cut_score;
 
-ghost use Rattle.std.specs.Prelude.{◌≡◌, ◌≤◌};
-ghost use Rattle.sheet.specs.Limits.{most_labels};
-ghost use Rattle.side_scan.specs.OneSide.{restarted, step_of, side_of};
-ghost use Rattle.side_scan.specs.Step.{Steppable, leaf_scan, SideSized};
+ghost use Rattle.std.specs.Prelude.{◌≡◌, ◌≤◌, ◌<◌};
+ghost use Rattle.sheet.specs.Limits.{most_labels, most_rows};
+ghost use Rattle.side_scan.specs.OneSide.{counted_of, restarted, cut_scored, count_row, step_of, side_of};
+ghost use Rattle.side_scan.specs.Step.{Cuttable, Steppable, leaf_scan, SideSized};
 
 use crate::best_counts::{commonest_label, find_peaks};
-use crate::cut_score::{Best, fall, is_quiet, judge_cut, split_of};
+use crate::cut_score::{Best, is_quiet, judge_cut, split_of};
 use sheet::MOST_LABELS;
 use tree::{Leaf, Question, Side};
 
 // The scan of one side. Its own rows: how many of each label, how many in all, how many labels the sheet has, and how many rows each part of a
 // split must have. Then the best found, and where the scan of the column at hand stands: rows counted of each label and in all, the rows
-// still to skip, whether the side is closed, and the previous row's value, if `started` says that there was one.
+// still to skip, whether the side is closed, and the value of the side's previous row, if there was one.
 #[derive(Clone, Copy)]
 pub struct SideScan {
     pub own: [u16; MOST_LABELS],
@@ -28,129 +28,117 @@ pub struct SideScan {
     pub counted: u32,
     pub skip: u32,
     pub closed: bool,
-    pub started: bool,
-    pub previous: f64,
+    pub previous: Option<f64>,
 }
 
-// One row of a side, the whole record by value. The counts with the row are made before its cut is scored, so that they are ready when the record is stored.
-fn step(mut side: SideScan, column: usize, label: usize, value: f64) -> SideScan
-    requires { Steppable side label }
-    ensures { result ≡ step_of side column label value }
-{
-    if side.closed {
-        return side;
-    }
-    let own = side.own;
-    let seen = side.seen;
-    let mut raised = seen;
-    raised[label] = raised[label] + 1;
-    let counted = side.counted;
-    let skip = fall(side.skip);
-    if is_quiet(side.started, side.previous, value, skip) {
-        side.skip = skip;
-    } else {
-        let previous = side.previous;
-        let rest = side.size - counted;
-        let was = side.best;
-        let peaks = find_peaks(&own, &seen, side.labels);
-        let verdict = judge_cut(peaks, counted, rest, side.least, was.score, skip);
-        if verdict.taken {
-            let best = split_of(peaks, counted, rest, column, previous, value);
-            side.best = best;
-        }
-        side.skip = verdict.skip;
-        side.closed = verdict.closed;
-    }
-    side.seen = raised;
-    side.counted = counted + 1;
-    side.started = true;
-    side.previous = value;
-    side
-}
-
-// The same in place.
-fn advance(side: &mut SideScan, column: usize, label: usize, value: f64)
-    requires { Steppable side.old label }
-    ensures { side.new ≡ step_of side.old column label value }
-{
-    *side = step(*side, column, label, value);
-}
-
-// From a record to a record by way of `advance`.
-pub fn advanced(side: SideScan, column: usize, label: usize, value: f64) -> SideScan
-    requires { Steppable side label }
-    ensures { result ≡ step_of side column label value }
-{
-    let mut next = side;
-    advance(&mut next, column, label, value);
-    next
-}
-
-// A side at the start of a column.
-pub fn restart(mut side: SideScan) -> SideScan
-    ensures { result ≡ restarted side }
-{
-    side.seen = [0; MOST_LABELS];
-    side.counted = 0;
-    side.skip = 0;
-    side.closed = false;
-    side.started = false;
-    side.previous = 0.0;
-    side
-}
-
-// A side before its first column: a leaf.
-pub fn begin(own: [u16; MOST_LABELS], size: u32, labels: usize, least: u32) -> SideScan
-    requires { (1 ≤ labels) × (labels ≤ most_labels) }
-    ensures { result ≡ leaf_scan own size labels least }
-{
-    let leaf = commonest_label(&own, labels);
-    let question = Question {
-        column: 0,
-        threshold: 0.0,
-    };
-    let none = Leaf { label: 0, error: 0 };
-    let best = Best {
-        score: leaf.count,
-        question,
-        left: none,
-        right: none,
-    };
-    SideScan {
-        own,
-        size,
-        labels,
-        least,
-        best,
-        seen: [0; MOST_LABELS],
-        counted: 0,
-        skip: 0,
-        closed: false,
-        started: false,
-        previous: 0.0,
-    }
-}
-
-pub fn side_of(side: SideScan) -> Side
-    requires { SideSized side }
-    ensures { result ≡ side_of side }
-{
-    let own = side.own;
-    let leaf = commonest_label(&own, side.labels);
-    let best = side.best;
-    if best.score == leaf.count {
-        let all = Leaf {
-            label: leaf.label,
-            error: side.size - leaf.count,
+impl SideScan {
+    // A side before its first column: a leaf.
+    pub fn begin(own: [u16; MOST_LABELS], size: u32, labels: usize, least: u32) -> SideScan
+        requires { (1 ≤ labels) × (labels ≤ most_labels) }
+        ensures { result ≡ leaf_scan own size labels least }
+    {
+        let leaf = commonest_label(&own, labels);
+        let question = Question {
+            column: 0,
+            threshold: 0.0,
         };
-        return Side::Leaf(all);
+        let none = Leaf { label: 0, error: 0 };
+        SideScan {
+            own,
+            size,
+            labels,
+            least,
+            best: Best {
+                score: leaf.count,
+                question,
+                left: none,
+                right: none,
+            },
+            seen: [0; MOST_LABELS],
+            counted: 0,
+            skip: 0,
+            closed: false,
+            previous: None,
+        }
     }
-    let question = best.question;
-    let left = best.left;
-    let right = best.right;
-    Side::Split {
-        question,
-        left,
-        right,
+
+    // A side at the start of a column.
+    pub fn restart(&mut self)
+        ensures { self.new ≡ restarted self.old }
+    {
+        self.seen = [0; MOST_LABELS];
+        self.counted = 0;
+        self.skip = 0;
+        self.closed = false;
+        self.previous = None;
+    }
+
+    // One row of the side. A closed side stays as it is.
+    pub fn advance(&mut self, column: usize, label: usize, value: f64)
+        requires { Steppable self.old label }
+        ensures { self.new ≡ step_of self.old column label value }
+    {
+        if self.closed {
+            return;
+        }
+        self.skip = self.skip.saturating_sub(1);
+        if !is_quiet(self.previous, value, self.skip) {
+            self.score_cut(column, value);
+        }
+        self.count_row(label, value);
+    }
+
+    // The cut before a row, scored.
+    fn score_cut(&mut self, column: usize, value: f64)
+        requires { Cuttable self.old }
+        ensures { self.new ≡ cut_scored self.old column value }
+    {
+        let rest = self.size - self.counted;
+        let peaks = find_peaks(&self.own, &self.seen, self.labels);
+        let verdict = judge_cut(
+            peaks,
+            self.counted,
+            rest,
+            self.least,
+            self.best.score,
+            self.skip,
+        );
+        self.skip = verdict.skip;
+        self.closed = verdict.closed;
+        if verdict.taken {
+            // a cut before the side's first row is never taken, as no row is before it
+            let previous = self.previous.unwrap_or(0.0);
+            self.best = split_of(peaks, self.counted, rest, column, previous, value);
+        }
+    }
+
+    fn count_row(&mut self, label: usize, value: f64)
+        requires coded { label < most_labels }
+        requires within { counted_of self.old label ≤ self.old.counted }
+        requires few { self.old.counted < most_rows }
+        ensures { self.new ≡ count_row self.old self.old.best self.old.skip self.old.closed label value }
+    {
+        self.seen[label] += 1;
+        self.counted += 1;
+        self.previous = Some(value);
+    }
+
+    // The side that the scan ends in.
+    pub fn to_side(&self) -> Side
+        requires { SideSized self.now }
+        ensures { result ≡ side_of self.now }
+    {
+        let leaf = commonest_label(&self.own, self.labels);
+        if self.best.score == leaf.count {
+            return Side::Leaf(Leaf {
+                label: leaf.label,
+                error: self.size - leaf.count,
+            });
+        }
+        Side::Split {
+            question: self.best.question,
+            left: self.best.left,
+            right: self.best.right,
+        }
     }
 }

@@ -7,8 +7,7 @@ use Rattle.sheet.specs.Sheet.{Sheet}
 use Rattle.tree.specs.declared.Side.{Side}
 use Rattle.side_scan.specs.OneSide.{side_of}
 use Rattle.side_scan.specs.Step.{SideSized}
-use Rattle.leaves_score.specs.declared.two_sides.Two.{Two}
-use Rattle.leaves_score.specs.Column.{other}
+use Rattle.leaves_score.specs.Column.{Two, other}
 use Rattle.leaves_score.specs.Scan.{scanned, sides_of}
 use Rattle.leaves_score.proofs.Columns.{Both, both_scanned, sized}
 use Rattle.leaves_score.proofs.get_leaves_score.Goals as goal
@@ -23,15 +22,15 @@ module _ (s : Sheet) (support : ℕ) (mark : ℕ → Bool) (b : Two) (e : b ≡ 
   right_sized : SideSized b.right
   right_sized = sized s support (other mark) b.right both.right some few
 
-pub side_of-left-requires : goal.side_of-left-requires
-side_of-left-requires c = left_sized _ _ _ _ c.scan_columns-both.ensures c.requires.limited.labels_some c.requires.limited.labels_most
+pub to_side-left-requires : goal.to_side-left-requires
+to_side-left-requires c = left_sized _ _ _ _ c.scan_columns-sides.ensures c.requires.limited.labels_some c.requires.limited.labels_most
 
-pub side_of-right-requires : goal.side_of-right-requires
-side_of-right-requires c = right_sized _ _ _ _ c.scan_columns-both.ensures c.requires.limited.labels_some c.requires.limited.labels_most
+pub to_side-right-requires : goal.to_side-right-requires
+to_side-right-requires c = right_sized _ _ _ _ c.scan_columns-sides.ensures c.requires.limited.labels_some c.requires.limited.labels_most
 
 pub returns : goal.returns
 unfolding sides_of
 returns c =
-    let k = c.scan_columns-both in
+    let k = c.scan_columns-sides in
     ap₂ (λ (l r : Side). record { left = l; right = r })
-    (c.side_of-left.ensures ∙ ap (λ (z : Two). side_of z.left) k.ensures) (c.side_of-right.ensures ∙ ap (λ (z : Two). side_of z.right) k.ensures)
+    (c.to_side-left.ensures ∙ ap (λ (z : Two). side_of z.left) k.ensures) (c.to_side-right.ensures ∙ ap (λ (z : Two). side_of z.right) k.ensures)

@@ -1,15 +1,18 @@
--- `side_scan::cut_score::judge_cut` meets its contract: what its calls ensure, put into the verdict, at the test's outcome.
-use Rattle.side_scan.proofs.Judged.{taken_is, passed_is}
+-- `side_scan::cut_score::judge_cut` meets its contract: at either outcome of the test.
+use Rattle.std.proofs.Common.{sym, ◌∙◌}
+use Rattle.basics.specs.Choice.{pick}
+use Rattle.side_scan.specs.Scored.{verdict_of}
 use Rattle.side_scan.proofs.cut_score.judge_cut.Goals as goal
-
-pub returns-then-is_taken : goal.returns-then-is_taken
-returns-then-is_taken c =
-    let a = c.args in
-    taken_is a.peaks a.counted a.rest a.least a.score a.skip c.is_taken.result c.is_closed-closed.result
-    c.is_taken.ensures c.if-is_taken.true c.is_closed-closed.ensures
+use Rattle.side_scan.proofs.cut_score.judge_cut.Goals.{then-taken, else-taken}
 
 pub returns : goal.returns
+unfolding verdict_of pick
 returns c =
-    let a = c.args in
-    passed_is a.peaks a.counted a.rest a.least a.score a.skip c.is_taken.result c.minus_word-next.result c.is_closed-closed-2.result
-    c.is_taken.ensures c.if-is_taken.false c.minus_word-next.ensures c.is_closed-closed-2.ensures
+    elim c.if-taken.branch [
+      | then-taken w ↦
+          let e = sym c.is_taken-taken.ensures ∙ w.if-taken.true in
+          rw (c.is_closed.ensures, c.is_taken-taken.ensures, e, w.next-is)
+      | else-taken w ↦
+          let e = sym c.is_taken-taken.ensures ∙ w.if-taken.false in
+          rw (c.is_closed.ensures, c.is_taken-taken.ensures, e, w.next-is, w.saturating_sub-next.ensures)
+    ]

@@ -1,7 +1,7 @@
--- `side_scan::begin` meets its contract: the leaf's count is the callee's.
+-- `side_scan::SideScan::begin` meets its contract: the leaf's count is the callee's.
 use lib.Ieee.{of_bits}
 use Rattle.side_scan.specs.Counts.{peak_of}
-use Rattle.side_scan.proofs.begin.Goals as goal
+use Rattle.side_scan.proofs.SideScan.begin.Goals as goal
 
 pub returns : goal.returns
 unfolding peak_of of_bits

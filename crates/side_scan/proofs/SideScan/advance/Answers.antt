@@ -1,0 +1,24 @@
+-- `side_scan::SideScan::advance` meets its contract: a closed side stays, and a row of an open one is only counted, or its cut is scored first (`Steps.antt`).
+use mathlib.Core.Path.{sym, ap, ◌∙◌}
+use Rattle.side_scan.specs.declared.SideScan.{SideScan}
+use Rattle.side_scan.proofs.Steps.{stays_closed, counting, only, cuts}
+use Rattle.side_scan.proofs.SideScan.advance.Goals as goal
+use Rattle.side_scan.proofs.SideScan.advance.Goals.{then-not-is_quiet, else-not-is_quiet}
+
+pub returns-then-self : goal.returns-then-self
+returns-then-self c = stays_closed _ _ _ _ c.if-self.true
+
+pub returns : goal.returns
+returns c =
+    let a = c.args in
+    let t = a.self.now in
+    let f = c.saturating_sub-self in
+    let counts = λ (u : SideScan). counting a.label a.value u in
+    let quiet = c.is_quiet.ensures in
+    c.count_row.ensures
+    ∙ elim c.if-not-is_quiet.branch [
+      | then-not-is_quiet w ↦
+          ap counts (w.self-is ∙ w.score_cut.ensures) ∙ cuts t a.column a.label a.value f.result c.if-self.false f.ensures (sym quiet ∙ w.if-not-is_quiet.true)
+      | else-not-is_quiet w ↦
+          ap counts w.self-is ∙ only t a.column a.label a.value f.result c.if-self.false f.ensures (sym quiet ∙ w.if-not-is_quiet.false)
+    ]
