@@ -8,19 +8,19 @@ use mathlib.Core.List.{List}
 use lib.ListN.{length, get_or}
 use lib.Dec.{T, ltb, eqb, eqb→eq}
 use lib.Ieee.{Float, nan, binary64, fits}
-use borrow.Author.Tests.{eqb-true, ltb-false, lt-ltb, le-ltb, eq-eqb, ne_eqb}
+use borrow.Author.Tests.{eqb-true, ltb-false, le-ltb, eq-eqb}
 use Rattle.basics.specs.Choice.{pick}
 use Rattle.basics.proofs.Choice.{and_left, and_right}
 use Rattle.basics.proofs.Walk.{walked, walk_unique}
+use Rattle.std.specs.Prelude.{Ok, Err}
 use Rattle.threshold.proofs.Keys.{finite_comparable}
 use Rattle.threshold.specs.Threshold.{within}
 use Rattle.threshold.proofs.Law.{within_finite}
+use Rattle.sheet.specs.declared.refusals.Refusal.{Refusal}
 use Rattle.sheet.specs.Limits.{most_rows, most_columns}
-use Rattle.sheet.specs.Check.{grid_holds, bad_value, first_bad_value}
+use Rattle.sheet.specs.Check.{grid_holds, bad_value, first_bad_value, Verdict, reason}
 use Rattle.sheet.proofs.Answer.{rows_inside, columns_inside}
-use Rattle.prepare.specs.declared.Prepared.{Prepared}
-use Rattle.prepare.specs.declared.Prepared.TheVariants.{Done, Refused}
-use Rattle.prepare.specs.Prepared.{exact_room, prepare_of, leaves}
+use Rattle.prepare.specs.Prepared.{exact_room, prepare_of}
 use Rattle.prepare.specs.Steps.{Columns}
 
 -- ---- the limits
@@ -45,16 +45,6 @@ module _ (rows columns : ℕ) where
 -- ---- the room
 
 module _ (cells columns orders cuts counts : ℕ) where
-  pub wrong_order : (orders ≡ cells → ⊥) → false ≡ exact_room cells columns orders cuts counts
-  unfolding exact_room
-  wrong_order h = sym (ap (λ (b : Bool). b && eqb cuts cells && eqb counts columns) (ne_eqb orders cells h))
-
-  pub wrong_cuts : orders ≡ cells → (cuts ≡ cells → ⊥) → false ≡ exact_room cells columns orders cuts counts
-  unfolding exact_room
-  wrong_cuts e h =
-      sym (ap (λ (b : Bool). b && eqb cuts cells && eqb counts columns) (eq-eqb orders cells e)
-      ∙ ap (λ (b : Bool). b && eqb counts columns) (ne_eqb cuts cells h))
-
   pub by_counts : orders ≡ cells → cuts ≡ cells → eqb counts columns ≡ exact_room cells columns orders cuts counts
   unfolding exact_room
   by_counts e f =
@@ -109,30 +99,12 @@ module _ (values : List Float) where
 -- ---- the answer
 
 module _ (rows columns : ℕ) (values : List Float) (orders cuts counts : ℕ) where
-  abbrev answer : Prepared
+  abbrev answer : Verdict
   answer = prepare_of rows columns values orders cuts counts
 
-  pub answer_1 : grid_holds rows columns ≡ false → Refused 1 0 ≡ answer
-  unfolding prepare_of pick
-  answer_1 e = rw e
-
-  pub answer_2 : grid_holds rows columns ≡ true → (length values ≡ rows * columns → ⊥) → Refused 2 0 ≡ answer
-  unfolding prepare_of pick
-  answer_2 e f = rw (e, ne_eqb (length values) (rows * columns) f)
-
-  pub answer_3 : grid_holds rows columns ≡ true → length values ≡ rows * columns → exact_room (rows * columns) columns orders cuts counts ≡ false
-      → Refused 3 0 ≡ answer
-  unfolding prepare_of pick
-  answer_3 e f g = rw (e, eq-eqb (length values) (rows * columns) f, g)
-
-  pub answer_5 : grid_holds rows columns ≡ true → length values ≡ rows * columns → exact_room (rows * columns) columns orders cuts counts ≡ true
-      → first_bad_value values < length values → Refused 5 (first_bad_value values) ≡ answer
-  unfolding prepare_of pick
-  answer_5 e f g h = rw (e, eq-eqb (length values) (rows * columns) f, g, lt-ltb (first_bad_value values) (length values) h)
-
   pub answer_none : grid_holds rows columns ≡ true → length values ≡ rows * columns → exact_room (rows * columns) columns orders cuts counts ≡ true
-      → length values ≤ first_bad_value values → Done ≡ answer
-  unfolding prepare_of pick
+      → length values ≤ first_bad_value values → Ok tt ≡ answer
+  unfolding prepare_of reason pick
   answer_none e f g h = rw (e, eq-eqb (length values) (rows * columns) f, g, le-ltb (first_bad_value values) (length values) h)
 
   -- a call that does not turn back
@@ -142,40 +114,35 @@ module _ (rows columns : ℕ) (values : List Float) (orders cuts counts : ℕ) w
     pub roomy : Room (rows * columns) columns orders cuts counts
     pub all_in : (i : ℕ) → i < length values → T (within (get_or values i nan))
 
-  refused : (b : Bool) (number place : ℕ) (rest : Prepared) → pick b (Refused number place) rest ≡ Done → (b ≡ false) × (rest ≡ Done)
+  passed : (b : Bool) (why : Refusal) (rest : Verdict) → pick b rest (Err why) ≡ Ok tt → (b ≡ true) × (rest ≡ Ok tt)
   unfolding pick
-  refused true number place rest e = absurd (let z : ◌≡◌ {A = ℕ} 0 1 = cc in omega arith)
-  refused false number place rest e = (refl, e)
+  passed true why rest e = (refl, e)
+  passed false why rest e = absurd cc
 
-  said : (b : Bool) → not b ≡ false → b ≡ true
-  said true e = refl
-  said false e = absurd (let z : ◌≡◌ {A = ℕ} 0 1 = cc in omega arith)
+  failed : (b : Bool) (why : Refusal) (rest : Verdict) → pick b (Err why) rest ≡ Ok tt → b ≡ false
+  unfolding pick
+  failed true why rest e = absurd cc
+  failed false why rest e = refl
 
-  pub accepted : Done ≡ answer → Accepted
-  unfolding prepare_of
+  pub accepted : Ok tt ≡ answer → Accepted
+  unfolding prepare_of reason
   accepted e =
-      let one = refused (not (grid_holds rows columns)) 1 0 _ (sym e) in
-      let two = refused (not (eqb (length values) (rows * columns))) 2 0 _ one.1 in
-      let three = refused (not (exact_room (rows * columns) columns orders cuts counts)) 3 0 _ two.1 in
-      let five = refused (ltb (first_bad_value values) (length values)) 5 (first_bad_value values) Done three.1 in
+      let one = passed (grid_holds rows columns) _ _ (sym e) in
+      let two = passed (eqb (length values) (rows * columns)) _ _ one.1 in
+      let three = passed (exact_room (rows * columns) columns orders cuts counts) _ _ two.1 in
+      let five = failed (ltb (first_bad_value values) (length values)) _ _ three.1 in
       record {
-        sized = limits rows columns (said (grid_holds rows columns) one.0);
-        values_exact = eqb-true (length values) (rows * columns) (said (eqb (length values) (rows * columns)) two.0);
-        roomy = room (rows * columns) columns orders cuts counts (said (exact_room (rows * columns) columns orders cuts counts) three.0);
-        all_in = all_within values (ltb-false (first_bad_value values) (length values) five.0);
+        sized = limits rows columns one.0;
+        values_exact = eqb-true (length values) (rows * columns) two.0;
+        roomy = room (rows * columns) columns orders cuts counts three.0;
+        all_in = all_within values (ltb-false (first_bad_value values) (length values) five);
       }
 
--- ---- the lists
-
-pub written : (r : Prepared) → r ≡ Done → (new wanted old : List ℕ) → new ≡ wanted → new ≡ leaves r wanted old
-written r e new wanted old f = f ∙ ap (λ (a : Prepared). leaves a wanted old) (sym e)
-
-pub untouched : (r : Prepared) (number place : ℕ) → r ≡ Refused number place → (wanted old : List ℕ) → old ≡ leaves r wanted old
-untouched r number place e wanted old = ap (λ (a : Prepared). leaves a wanted old) (sym e)
+-- ---- the call
 
 -- what is accepted can be prepared
 pub preparable : (rows columns : ℕ) (values : List Float) (order cuts counts : List ℕ)
-    → Done ≡ prepare_of rows columns values (length order) (length cuts) (length counts)
+    → Ok tt ≡ prepare_of rows columns values (length order) (length cuts) (length counts)
     → ((i : ℕ) → T (fits binary64 (get_or values i nan))) → Columns rows columns values order cuts counts
 preparable rows columns values order cuts counts e f =
     let a = accepted rows columns values (length order) (length cuts) (length counts) e in

@@ -66,6 +66,10 @@ module _ (f : ℕ → List ℕ) (width : ℕ) (each : (c : ℕ) → length (f c)
   joined_none old = record { place = sym (zero-mul width); long = refl; words = refl }
 
   module _ (old new : List ℕ) (from c : ℕ) (j : Joined f width old new from c) where
+    -- by the place alone
+    pub placed : Joined f width old new (c * width) c
+    placed = subst (λ (n : ℕ). Joined f width old new n c) j.place j
+
     here : length (columns_joined f c) ≡ from
     here = joined_length c ∙ sym j.place
 
@@ -168,10 +172,10 @@ module _ (rows columns : ℕ) (values : List Float) (order cuts counts : List �
     count_of r = as_column (λ n l. r ≡ cut_count n l)
 
 -- the columns so far, in all three lists
-pub record Preparing (rows columns : ℕ) (values : List Float) (order cuts counts order' cuts' counts' : List ℕ) (from c : ℕ) : Type 0 where
+pub record Preparing (rows columns : ℕ) (values : List Float) (order cuts counts order' cuts' counts' : List ℕ) (c : ℕ) : Type 0 where
   pub low : c ≤ columns
-  pub orders : Joined (λ d. rows_in_order rows (column_values rows values d)) rows order order' from c
-  pub places : Joined (λ d. cut_slots rows (column_values rows values d)) rows cuts cuts' from c
+  pub orders : Joined (λ d. rows_in_order rows (column_values rows values d)) rows order order' (c * rows) c
+  pub places : Joined (λ d. cut_slots rows (column_values rows values d)) rows cuts cuts' (c * rows) c
   pub numbers : Joined (λ d. cut_count rows (column_values rows values d) ∷ []) 1 counts counts' c c
 
 module _ (rows columns : ℕ) (values : List Float) (order cuts counts : List ℕ) (S : Columns rows columns values order cuts counts) where
@@ -184,16 +188,21 @@ module _ (rows columns : ℕ) (values : List Float) (order cuts counts : List �
   abbrev number_of : ℕ → ℕ
   number_of d = cut_count rows (column_values rows values d)
 
-  pub start : Preparing rows columns values order cuts counts order cuts counts 0 0
+  pub start : Preparing rows columns values order cuts counts order cuts counts 0
   start =
       record {
         low = omega arith;
-        orders = joined_none orders_of rows (λ d. order_length (column_values rows values d) rows) order;
-        places = joined_none places_of rows (λ d. cuts_length rows (column_values rows values d)) cuts;
+        orders = placed orders_of rows (λ d. order_length (column_values rows values d) rows) order order 0 0
+            (joined_none orders_of rows (λ d. order_length (column_values rows values d) rows) order);
+        places = placed places_of rows (λ d. cuts_length rows (column_values rows values d)) cuts cuts 0 0
+            (joined_none places_of rows (λ d. cuts_length rows (column_values rows values d)) cuts);
         numbers = joined_none (λ d. number_of d ∷ []) 1 (λ d. refl) counts;
       }
 
-  module _ (order' cuts' counts' : List ℕ) (from c : ℕ) (P : Preparing rows columns values order cuts counts order' cuts' counts' from c) where
+  module _ (order' cuts' counts' : List ℕ) (c : ℕ) (P : Preparing rows columns values order cuts counts order' cuts' counts' c) where
+    abbrev from : ℕ
+    from = c * rows
+
     module _ (h : c < columns) where
       pub within : from + rows ≤ rows * columns
       within = inside rows columns values order cuts counts S c from h P.orders.place
@@ -210,14 +219,16 @@ module _ (rows columns : ℕ) (values : List Float) (order cuts counts : List �
           → k ≡ cut_slots (length now_column) now_column → length o ≡ length (mid_of from (from + rows - from) order')
           → length k ≡ length (mid_of from (from + rows - from) cuts')
           → Preparing rows columns values order cuts counts (put_mid from (from + rows - from) order' o) (put_mid from (from + rows - from) cuts' k)
-          (set counts' c r) (from + rows) (c + 1)
+          (set counts' c r) (c + 1)
       next r o k er eo ek lo lk =
           record {
             low = omega arith;
-            orders = joined_part orders_of rows (λ d. order_length (column_values rows values d) rows) order order' from c P.orders o
-                (order_of rows columns values order cuts counts S c from h P.orders.place o eo) lo;
-            places = joined_part places_of rows (λ d. cuts_length rows (column_values rows values d)) cuts cuts' from c P.places k
-                (cuts_of rows columns values order cuts counts S c from h P.orders.place k ek) lk;
+            orders = placed orders_of rows (λ d. order_length (column_values rows values d) rows) order _ (from + rows) (c + 1)
+                (joined_part orders_of rows (λ d. order_length (column_values rows values d) rows) order order' from c P.orders o
+                (order_of rows columns values order cuts counts S c from h P.orders.place o eo) lo);
+            places = placed places_of rows (λ d. cuts_length rows (column_values rows values d)) cuts _ (from + rows) (c + 1)
+                (joined_part places_of rows (λ d. cuts_length rows (column_values rows values d)) cuts cuts' from c P.places k
+                (cuts_of rows columns values order cuts counts S c from h P.orders.place k ek) lk);
             numbers = joined_word number_of counts counts' c P.numbers (omega (arith, S.count_room)) r
                 (count_of rows columns values order cuts counts S c from h P.orders.place r er);
           }

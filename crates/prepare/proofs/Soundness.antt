@@ -21,7 +21,7 @@ use Rattle.sheet.specs.Sheet.{Sheet, value_of, row_at, value_at, place_of}
 use Rattle.sheet.specs.Sheet as sheet
 use Rattle.sheet.specs.Sound.{Cuts, SoundColumn}
 use Rattle.row_sort.specs.Sorting.{rows_from, key_in}
-use Rattle.prepare.specs.declared.Prepared.{Prepared}
+use Rattle.sheet.specs.Check.{Verdict}
 use Rattle.prepare.specs.Lists.{rows_in_order, row_is_cut, cuts_along, cut_places, cut_count, padded, cut_slots}
 use Rattle.prepare.specs.Prepared.{column_values, order_list, cut_list, count_list, leaves}
 use Rattle.row_sort.specs.Steps.{Upto, RowsAscend, Comparable}
@@ -217,7 +217,7 @@ determined rows columns values order cuts counts a b order₁ cuts₁ counts₁ 
     let e : a ≡ b = x.answers ∙ sym y.answers in
     record {
       answers = e;
-      orders = x.orders ∙ ap (λ (r : Prepared). leaves r (order_list rows columns values) order) e ∙ sym y.orders;
-      places = x.places ∙ ap (λ (r : Prepared). leaves r (cut_list rows columns values) cuts) e ∙ sym y.places;
-      numbers = x.numbers ∙ ap (λ (r : Prepared). leaves r (count_list rows columns values) counts) e ∙ sym y.numbers;
+      orders = x.orders ∙ ap (λ (r : Verdict). leaves r (order_list rows columns values) order) e ∙ sym y.orders;
+      places = x.places ∙ ap (λ (r : Verdict). leaves r (cut_list rows columns values) cuts) e ∙ sym y.places;
+      numbers = x.numbers ∙ ap (λ (r : Verdict). leaves r (count_list rows columns values) counts) e ∙ sym y.numbers;
     }

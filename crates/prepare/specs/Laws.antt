@@ -1,18 +1,15 @@
 -- For a signer. What holds of all that the preparer writes, as statements; `proofs/` proves each.
-use Rattle.std.specs.Prelude.{ℕ, ◌*◌, ◌≤◌, ◌<◌, ◌≡◌, Bool, List, [], ◌∷◌, length, get_or, T, Float}
+use Rattle.std.specs.Prelude.{ℕ, ◌*◌, ◌≤◌, ◌<◌, ◌≡◌, Bool, List, [], ◌∷◌, length, get_or, T, Float, Ok}
 use Rattle.std.specs.Float.{nan, binary64}
 use Rattle.std.specs.Float.Ieee.{fits}
 use Rattle.basics.specs.Lists.{All, tally, table}
 use Rattle.threshold.specs.Laws.{Measured}
 use Rattle.sheet.specs.Limits.{most_labels, words_per_row}
 use Rattle.sheet.specs.Laws.{TermsLimited}
-use Rattle.sheet.specs.Check.{check_of}
+use Rattle.sheet.specs.Check.{Verdict, check_of}
 use Rattle.sheet.specs.declared.Terms.{Terms}
-use Rattle.sheet.specs.declared.Checked.TheVariants.{Accepted}
 use Rattle.sheet.specs.Sheet.{Sheet}
 use Rattle.sheet.specs.Sound.{SoundColumn, Sound}
-use Rattle.prepare.specs.declared.Prepared.{Prepared}
-use Rattle.prepare.specs.declared.Prepared.TheVariants.{Done}
 use Rattle.prepare.specs.Lists.{precedes, rows_in_order}
 use Rattle.prepare.specs.Prepared.{order_list, cut_list, count_list, prepare_of, PreparedOf}
 
@@ -55,7 +52,7 @@ prepared_sheet rows columns labels values codes =
 -- a values list of doubles that the preparer does not turn back
 pub record Taken (rows columns : ℕ) (values : List Float) : Type 0 where
   pub doubles : (i : ℕ) → T (fits binary64 (get_or values i nan))
-  pub done : Done ≡ prepare_of rows columns values (rows * columns) (rows * columns) columns
+  pub done : Ok tt ≡ prepare_of rows columns values (rows * columns) (rows * columns) columns
 
 -- its columns are as the input check accepts them ..
 abbrev pub SoundColumns : Type 0
@@ -75,12 +72,12 @@ NeverRefused =
     (rows columns labels : ℕ) (values : List Float) (codes : List ℕ) (t : Terms) (words : ℕ) → Taken rows columns values
     → 1 ≤ labels → labels ≤ most_labels → length codes ≡ rows → ((r : ℕ) → r < rows → get_or codes r 0 < labels)
     → TermsLimited t → words_per_row * rows ≤ words
-    → check_of (prepared_sheet rows columns labels values codes) t words ≡ Accepted
+    → check_of (prepared_sheet rows columns labels values codes) t words ≡ Ok tt
 
 -- ---- the outcome
 
 -- two outcomes that fit the contract coincide
-pub record Same (a b : Prepared) (order cuts counts order₂ cuts₂ counts₂ : List ℕ) : Type 0 where
+pub record Same (a b : Verdict) (order cuts counts order₂ cuts₂ counts₂ : List ℕ) : Type 0 where
   pub answers : a ≡ b
   pub orders : order ≡ order₂
   pub places : cuts ≡ cuts₂
@@ -88,6 +85,6 @@ pub record Same (a b : Prepared) (order cuts counts order₂ cuts₂ counts₂ :
 
 abbrev pub Determined : Type 0
 Determined =
-    (rows columns : ℕ) (values : List Float) (order cuts counts : List ℕ) (a b : Prepared) (order₁ cuts₁ counts₁ order₂ cuts₂ counts₂ : List ℕ)
+    (rows columns : ℕ) (values : List Float) (order cuts counts : List ℕ) (a b : Verdict) (order₁ cuts₁ counts₁ order₂ cuts₂ counts₂ : List ℕ)
     → PreparedOf rows columns values order cuts counts a order₁ cuts₁ counts₁
     → PreparedOf rows columns values order cuts counts b order₂ cuts₂ counts₂ → Same a b order₁ cuts₁ counts₁ order₂ cuts₂ counts₂

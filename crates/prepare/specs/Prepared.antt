@@ -1,13 +1,9 @@
 -- For a signer. What the preparer answers and writes (document 01, "The sheet and its numbers" and "Reasons a call turns back"). Definitions
 -- only.
-use Rattle.std.specs.Prelude.{ℕ, zero, suc, ◌*◌, ◌≡◌, Bool, not, ◌&&◌, List, [], ◌∷◌, ◌++◌, length, take, drop, ltb, eqb, Float}
-use Rattle.std.proofs.Math.Option.{Option, none, some}
-use Rattle.basics.specs.Choice.{pick}
-use Rattle.sheet.specs.Reasons.{size_outside, length_wrong, scratch_short, value_outside}
-use Rattle.sheet.specs.Check.{grid_holds, first_bad_value}
+use Rattle.std.specs.Prelude.{ℕ, zero, suc, ◌*◌, ◌≡◌, Bool, ◌&&◌, List, [], ◌∷◌, ◌++◌, length, take, drop, eqb, Float, Ok, Err}
+use Rattle.sheet.specs.declared.refusals.Reason.TheVariants.{SizeOutside, LengthWrong, ScratchShort, ValueOutside}
+use Rattle.sheet.specs.Check.{grid_holds, bad_value, Verdict, reason, whole}
 use Rattle.prepare.specs.Lists.{rows_in_order, cut_count, cut_slots}
-use Rattle.prepare.specs.declared.Prepared.{Prepared}
-use Rattle.prepare.specs.declared.Prepared.TheVariants.{Done, Refused}
 
 -- ---- all columns, one after the other
 
@@ -36,26 +32,21 @@ unfoldable pub exact_room : ℕ → ℕ → ℕ → ℕ → ℕ → Bool
 exact_room cells columns orders cuts counts = eqb orders cells && eqb cuts cells && eqb counts columns
 
 -- "The lowest number wins": the answer for a values list and lists of these lengths
-unfoldable pub prepare_of : ℕ → ℕ → List Float → ℕ → ℕ → ℕ → Prepared
+unfoldable pub prepare_of : ℕ → ℕ → List Float → ℕ → ℕ → ℕ → Verdict
 prepare_of rows columns values orders cuts counts =
-    pick (not (grid_holds rows columns)) (Refused size_outside 0)
-    (pick (not (eqb (length values) (rows * columns))) (Refused length_wrong 0)
-    (pick (not (exact_room (rows * columns) columns orders cuts counts)) (Refused scratch_short 0)
-    (pick (ltb (first_bad_value values) (length values)) (Refused value_outside (first_bad_value values))
-    Done)))
-
--- document 01's number and place of an answer, if it turns back
-abbrev pub reason_of : Prepared → Option (ℕ × ℕ)
-reason_of Done = none
-reason_of (Refused number place) = some (number, place)
+    whole SizeOutside (grid_holds rows columns)
+    (whole LengthWrong (eqb (length values) (rows * columns))
+    (whole ScratchShort (exact_room (rows * columns) columns orders cuts counts)
+    (reason ValueOutside (length values) (bad_value values)
+    (Ok tt))))
 
 -- "A turned-back preparer writes nothing."
-abbrev pub leaves : Prepared → List ℕ → List ℕ → List ℕ
-leaves Done written before = written
-leaves (Refused number place) written before = before
+abbrev pub leaves : Verdict → List ℕ → List ℕ → List ℕ
+leaves (Ok done) written before = written
+leaves (Err refusal) written before = before
 
 -- all that a call does: its answer, and every word of the three lent slices as it ends
-pub record PreparedOf (rows columns : ℕ) (values : List Float) (order cuts counts : List ℕ) (answer : Prepared)
+pub record PreparedOf (rows columns : ℕ) (values : List Float) (order cuts counts : List ℕ) (answer : Verdict)
     (order' cuts' counts' : List ℕ) : Type 0 where
   pub answers : answer ≡ prepare_of rows columns values (length order) (length cuts) (length counts)
   pub orders : order' ≡ leaves answer (order_list rows columns values) order

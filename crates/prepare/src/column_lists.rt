@@ -1,19 +1,9 @@
 // One column's lists: its rows in sorted order, and the places where its value rises.
-ghost use Rattle.std.specs.Prelude.{◌≡◌, length, replicate};
+ghost use Rattle.std.specs.Prelude.{◌≡◌, length};
 ghost use Rattle.prepare.specs.Lists.{rows_in_order, cuts_along, padded, cut_slots, cut_count};
 ghost use Rattle.prepare.specs.ListSteps.{Ordering, OneColumn};
 
 use threshold::order::below;
-
-fn clear(words: &mut [u16])
-    ensures { words.new ≡ replicate (length words.old) 0 }
-{
-    let mut i: usize = 0;
-    while i < words.len() {
-        words[i] = 0;
-        i += 1;
-    }
-}
 
 // The places whose value is above the one before, and zeros after them; how many there are.
 fn find_cuts(values: &[f64], order: &[u16], cuts: &mut [u16]) -> u16
@@ -22,15 +12,13 @@ fn find_cuts(values: &[f64], order: &[u16], cuts: &mut [u16]) -> u16
         × (cuts.new ≡ padded (length order.now) (cuts_along values.now order.now)) }
 {
     let mut count: usize = 0;
-    let mut i: usize = 1;
-    while i < order.len() {
+    for i in 1..order.len() {
         if below(values, order[i - 1], order[i]) {
             cuts[count] = i as u16;
             count += 1;
         }
-        i += 1;
     }
-    clear(&mut cuts[count..]);
+    cuts[count..].fill(0);
     count as u16
 }
 

@@ -28,4 +28,4 @@ returns c =
     let h = c in
     let p = c in
     let l = c.loop-i-test.false in
-    (total _ _ _ p.requires _ _ _ h.loop-i.invariant l, cleared _ _ _ p.requires _ _ _ h.loop-i.invariant l _ c.clear.ensures)
+    (total _ _ _ p.requires _ _ _ h.loop-i.invariant l, cleared _ _ _ p.requires _ _ _ h.loop-i.invariant l _ (c.fill.ensures.after (λ y e. e)))
