@@ -7,11 +7,13 @@ use native.Mathlib.Numerals.{add-one}
 use mathlib.Core.Bool.{Bool, not}
 use lib.Dec.{T}
 use Rattle.basics.proofs.Choice.{order}
-use Rattle.basics.specs.Walk.{walk}
-use Rattle.sheet.specs.declared.Size.{Size}
+use Rattle.std.specs.Prelude.{Option, Some, None}
+use Rattle.basics.specs.Walk.{walk, place_among}
+use Rattle.basics.proofs.Walk.{place_some, place_none}
+use Rattle.sheet.specs.Sheet.{Sheet}
 use Rattle.sheet.specs.Check.{at_index}
-use Rattle.sheet.specs.Ready.{Columned}
-use Rattle.sheet.proofs.Search.{Clean, clean_stop, clean_all, clean_walk, walk_most, walk_bad}
+use Rattle.sheet.specs.Ready.{Shaped}
+use Rattle.sheet.proofs.Search.{Clean, clean_found, clean_walk, walk_most, walk_bad}
 
 -- a column of the sheet ends inside the lists
 pub column_in : (rows columns c : ℕ) → c < columns → c * rows + rows ≤ columns * rows
@@ -28,11 +30,11 @@ pub record Room (rows c entries : ℕ) : Type 0 where
   pub inside : c * rows + rows ≤ entries
   pub small : entries ≤ 65536
 
-pub room : {size : Size} {column : ℕ} → Columned size column → (n : ℕ) → n ≡ size.columns * size.rows → Room size.rows column n
-room {size} {column} h n e =
+pub room : {s : Sheet} {c : ℕ} → Shaped s → c < s.columns → (n : ℕ) → n ≡ s.columns * s.rows → Room s.rows c n
+room {s} {c} shaped h n e =
     record {
-      inside = omega (arith, column_in size.rows size.columns column h.column_in);
-      small = omega (arith, cells_most size.rows size.columns h.sized.rows_most h.sized.columns_most);
+      inside = omega (arith, column_in s.rows s.columns c h);
+      small = omega (arith, cells_most s.rows s.columns shaped.limited.rows_most shaped.limited.columns_most);
     }
 
 pub column_none : (bad : ℕ → ℕ → Bool) (rows : ℕ) → Clean (at_index bad rows) (0 * rows)
@@ -63,20 +65,18 @@ module _ (bad : ℕ → ℕ → Bool) {rows : ℕ} (some : 1 ≤ rows) (c : ℕ)
             (λ g. past.none j g);
       }
 
-  -- a search of the column that found a place, and one that found none
-  pub column_stop : (columns i : ℕ) → c < columns → Clean (at_index bad rows) (c * rows) → i ≡ walk (bad c) rows 0 → i < rows
-      → c * rows + i ≡ walk (at_index bad rows) (columns * rows) 0
-  column_stop columns i h past e l =
-      clean_stop (clean_column i (omega arith) past (subst (λ n. Clean (bad c) n) (sym e) (clean_walk (bad c) rows)))
-      (omega (arith, column_in rows columns c h))
-      (subst (λ b. T b) (at_column i l) (subst (λ n. T (bad c n)) (sym e) (walk_bad (bad c) rows (omega arith))))
+  module _ (place : Option ℕ) (is : place ≡ place_among rows (walk (bad c) rows 0)) (past : Clean (at_index bad rows) (c * rows)) where
+    -- a search of the column that found a place, and one that found none
+    pub column_found : (columns p : ℕ) → c < columns → place ≡ Some p
+        → Some (c * rows + p) ≡ place_among (columns * rows) (walk (at_index bad rows) (columns * rows) 0)
+    column_found columns p h e =
+        let w = place_some rows (walk (bad c) rows 0) p (sym is ∙ e) in
+        clean_found (clean_column p (omega (arith, w.0, w.1)) past (subst (λ n. Clean (bad c) n) w.0 (clean_walk (bad c) rows)))
+        (omega (arith, column_in rows columns c h, w.0, w.1))
+        (subst (λ b. T b) (at_column p (omega (arith, w.0, w.1))) (subst (λ n. T (bad c n)) w.0 (walk_bad (bad c) rows w.1)))
 
-  pub column_more : (i : ℕ) → Clean (at_index bad rows) (c * rows) → i ≡ walk (bad c) rows 0 → rows ≤ i
-      → Clean (at_index bad rows) ((c + 1) * rows)
-  column_more i past e l =
-      let w : i ≡ rows = omega (arith, walk_most (bad c) rows) in
-      subst (λ n. Clean (at_index bad rows) n) (sym (next_column rows c))
-      (clean_column rows (omega arith) past (subst (λ n. Clean (bad c) n) (sym e ∙ w) (clean_walk (bad c) rows)))
-
-  pub column_all : (columns : ℕ) → c ≡ columns → Clean (at_index bad rows) (c * rows) → c * rows ≡ walk (at_index bad rows) (columns * rows) 0
-  column_all columns e past = clean_all past (ap (λ (n : ℕ). n * rows) e)
+    pub column_passed : place ≡ None → Clean (at_index bad rows) ((c + 1) * rows)
+    column_passed e =
+        let w : walk (bad c) rows 0 ≡ rows = omega (arith, place_none rows (walk (bad c) rows 0) (sym is ∙ e), walk_most (bad c) rows) in
+        subst (λ n. Clean (at_index bad rows) n) (sym (next_column rows c))
+        (clean_column rows (omega arith) past (subst (λ n. Clean (bad c) n) w (clean_walk (bad c) rows)))

@@ -12,7 +12,7 @@ use Rattle.std.proofs.lemmas.List.Sums.{position_or_len_is}
 use borrow.Author.Count.{below_more}
 use Rattle.basics.specs.Choice.{pick}
 use Rattle.basics.specs.Walk.{walk, place_among}
-use Rattle.basics.proofs.Walk.{walked, walk_unique}
+use Rattle.basics.proofs.Walk.{walked, walk_unique, place_found, place_missed}
 
 -- no place before the n-th is bad
 pub record Clean (bad : ℕ → Bool) (n : ℕ) : Type 0 where
@@ -50,6 +50,13 @@ clean_all {bad} {n} {i} h e =
     sym
     (walk_unique bad n 0 i
     (record { low = omega arith; high = omega arith; before = λ j _ g. h.none j g; found = λ l. absurd (omega arith) }))
+
+-- the same of a place among the first n
+pub clean_found : {bad : ℕ → Bool} {n i : ℕ} → Clean bad i → i < n → T (bad i) → Some i ≡ place_among n (walk bad n 0)
+clean_found {bad} {n} {i} h l t = sym (place_found n i l) ∙ ap (place_among n) (clean_stop h l t)
+
+pub clean_missed : {bad : ℕ → Bool} {n : ℕ} → Clean bad n → None ≡ place_among n (walk bad n 0)
+clean_missed {bad} {n} h = sym (place_missed n n (omega arith)) ∙ ap (place_among n) (clean_all h refl)
 
 -- what a walk tells of the places before its answer, and of its answer
 pub clean_walk : (bad : ℕ → Bool) (n : ℕ) → Clean bad (walk bad n 0)

@@ -3,27 +3,24 @@ use mathlib.Core.Path.{◌≡◌, refl, sym, ap, ◌∙◌}
 use Prim.Native.Nat.{ℕ, ◌+◌, ◌-◌, ◌*◌, ◌≤◌, ◌<◌}
 use native.Mathlib.Omega.{arith}
 use mathlib.Core.Bool.{true, false, not}
-use mathlib.Core.List.{List}
 use lib.ListN.{length, get_or}
 use lib.Dec.{T, leb, le→leb}
 use lib.Ieee.{Float, nan, lt}
 use Rattle.basics.proofs.Choice.{and_both, nand_right}
-use Rattle.sheet.specs.declared.Size.{Size}
 use Rattle.sheet.specs.Sheet.{Sheet, value_of, row_at, value_at, is_cut}
 use Rattle.sheet.specs.Check.{falls}
-use Rattle.sheet.specs.Ready.{Columned, Listed}
+use Rattle.sheet.specs.Ready.{Listed}
 use Rattle.sheet.proofs.Search.{truth, untruth}
 use Rattle.sheet.proofs.Index.{room}
 
 -- what a read of the value at a sorted place asks
-pub value_ready : {size : Size} {values : List Float} {order : List ℕ} → Listed size values order → (c i : ℕ) → c < size.columns
-    → i < size.rows
-    → (c * size.rows + i < length order) × (c * size.rows + get_or order (c * size.rows + i) 0 < length values)
-value_ready {size} {values} {order} l c i h g =
-    let k : Columned size c = record { sized = l.sized; column_in = h } in (
-      omega (arith, room k (length order) l.order_all),
-      omega (arith, room k (length values) l.values_all, l.in_rows c i h g),
-    )
+pub value_ready : {s : Sheet} {c : ℕ} → Listed s c → (i : ℕ) → i < s.rows
+    → (c * s.rows + i < length s.order) × (c * s.rows + get_or s.order (c * s.rows + i) 0 < length s.values)
+unfolding row_at
+value_ready {s} {c} l i h = (
+  omega (arith, room l.shaped l.column_in (length s.order) l.shaped.lengths.order_all),
+  omega (arith, room l.shaped l.column_in (length s.values) l.shaped.lengths.values_all, l.in_rows i h),
+)
 
 module _ (s : Sheet) (c i : ℕ) where
   -- what it gives

@@ -1,6 +1,6 @@
 -- One pass over a column: what it has seen before a place, and what it has seen at the end. Assumes nothing.
 use mathlib.Core.Path.{◌≡◌, sym, ap, ◌∙◌, subst}
-use Prim.Native.Nat.{ℕ, ◌+◌, ◌-◌, ◌≤◌, ◌<◌}
+use Prim.Native.Nat.{ℕ, ◌+◌, ◌-◌, ◌*◌, ◌≤◌, ◌<◌}
 use native.Mathlib.Omega.{arith}
 use mathlib.Core.Bool.{true, false, not}
 use mathlib.Core.List.{List}
@@ -11,7 +11,8 @@ use Rattle.basics.proofs.Choice.{reach, and_both, or_left, or_right, eqb_yes}
 use Rattle.threshold.specs.Order.{is_at_most, comparable}
 use Rattle.threshold.proofs.Compare.{le_or}
 use Rattle.threshold.proofs.Keys.{eq→, →eq}
-use Rattle.sheet.specs.Sheet.{Sheet, row_at, value_at, count_of, place_of}
+use Rattle.sheet.specs.Sheet.{Sheet, row_at, value_of, value_at, count_of, place_of}
+use Rattle.sheet.specs.Laws.{Doubles}
 use Rattle.sheet.specs.Check.{bad_order}
 use Rattle.sheet.proofs.Search.{Clean, clean_none, clean_more, truth}
 use Rattle.sheet.proofs.Values.{cut_yes, cut_no}
@@ -101,10 +102,12 @@ module _ {s : Sheet} {c found i mark : ℕ} {last : Float} {marks : List ℕ} (m
         (subst T (sym (le_or last v)) (or_right (lt last v) (eq last v) g))
 
   -- at the end
-  pub seen_all : i ≡ s.rows → found ≡ count_of s c → Passed s c
-  seen_all e p =
+  pub seen_all : Doubles s → i ≡ s.rows → found ≡ count_of s c → Passed s c
+  unfolding value_at value_of
+  seen_all doubles e p =
       record {
         in_order = λ j h. m.in_order.none j (omega arith);
+        double = λ j. doubles (c * s.rows + row_at s c j);
         climbs = λ j a b. m.climbs j a (omega arith);
         matches = subst T (matched_end s c found i m.cuts e) (eqb_yes found (count_of s c) p);
       }

@@ -5,8 +5,8 @@ use Prim.Native.Nat.{ℕ, zero, suc, ◌+◌, ◌-◌, ◌*◌, ◌/◌, ◌%◌
 use native.Mathlib.Omega.{arith}
 use native.Mathlib.Nat.{div-add-mod', div-lt_iff_lt-mul, mod-lt}
 use mathlib.Core.Bool.{Bool, not}
-use mathlib.Core.List.{List, []}
-use lib.ListN.{length, get_or}
+use mathlib.Core.List.{List}
+use lib.ListN.{length}
 use lib.Dec.{T, T_not, leb, nleb→lt}
 use lib.Ieee.{Float, nan, inf, fin, binary64, fits, le, is_nan}
 use Rattle.basics.specs.Walk.{walk}
@@ -16,19 +16,22 @@ use Rattle.threshold.specs.Order.{key, comparable, is_at_most}
 use Rattle.threshold.specs.Threshold.{within, lowest_value, largest_value}
 use Rattle.threshold.proofs.Keys.{le→, →le, →not-lt}
 use Rattle.threshold.proofs.Law.{measured_comparable}
-use Rattle.sheet.specs.declared.Size.{Size}
-use Rattle.sheet.specs.declared.Checked.TheVariants.{Accepted}
-use Rattle.sheet.specs.Reasons.{value_outside, label_high, order_wrong, value_falls, cuts_wrong}
+use Rattle.std.specs.Prelude.{Option, None, Ok}
+use Rattle.basics.specs.Walk.{place_among}
+use Rattle.basics.proofs.Walk.{place_none}
+use Rattle.sheet.specs.declared.refusals.Reason.{Reason}
+use Rattle.sheet.specs.declared.refusals.Reason.TheVariants.{ValueOutside, LabelHigh, OrderWrong, ValueFalls, CutsWrong}
+use Rattle.sheet.specs.Ready.{Shaped, Ordered}
 use Rattle.sheet.specs.Sheet.{Sheet, row_at, value_at, value_of, places_of}
-use Rattle.sheet.specs.Check.{sheet_of, cells_of, bad_value, bad_label, first_bad_label, bad_order, met, falls, bad_cuts, cuts_of, same, at_index, content_of}
-use Rattle.sheet.specs.Laws.{Doubles}
+use Rattle.sheet.specs.Check.{cells_of, bad_value, bad_label, first_bad_label, bad_order, met, falls, bad_cuts, cuts_of, same, at_index, Verdict, reason, content_of}
 use Rattle.sheet.proofs.Search.{Clean, clean_all, clean_walk, walk_most, falsity}
 use Rattle.sheet.proofs.MetBefore.{met_yes}
 use Rattle.sheet.proofs.Values.{falls_no, falls_first}
+use Rattle.sheet.proofs.Index.{at_column, column_in}
 use Rattle.sheet.proofs.Once.{each_once}
 use Rattle.sheet.proofs.Answer.{rest6, rest7, rest8, rest9}
 use Rattle.sheet_check.specs.Steps.{Passed, ends_hold}
-use Rattle.sheet_check.proofs.Found.{reason_go, content}
+use Rattle.sheet_check.proofs.Found.{reason_past, content}
 
 -- what something is at most is no NaN
 above_number : (x y : Float) → T (le x y) → T (not (is_nan y))
@@ -46,28 +49,20 @@ ends_comparable = (tt, tt)
 -- ---- a column
 
 -- its entries of the order list are rows
-row_below : (s : Sheet) (c : ℕ) → Passed s c → (i : ℕ) → i < s.rows → row_at s c i < s.rows
+pub row_below : (s : Sheet) (c : ℕ) → Passed s c → (i : ℕ) → i < s.rows → row_at s c i < s.rows
 unfolding bad_order
 row_below s c p i h = nleb→lt s.rows (row_at s c i) (nor_left (leb s.rows (row_at s c i)) (met s c i) (p.in_order i h))
 
-pub entries_below : (size : Size) (values : List Float) (order cuts counts : List ℕ) (c : ℕ) → Passed (sheet_of size values [] order cuts counts) c
-    → (i : ℕ) → i < size.rows → get_or order (c * size.rows + i) 0 < size.rows
-unfolding row_at
-entries_below size values order cuts counts = row_below (sheet_of size values [] order cuts counts)
-
 -- no label is too high
-pub labels_clean : (codes : List ℕ) (labels rows r : ℕ) → length codes ≡ rows → r ≡ first_bad_label codes labels → length codes ≤ r
-    → Clean (bad_label codes labels) rows
-labels_clean codes labels rows r e f l =
+pub labels_clean : (codes : List ℕ) (labels rows : ℕ) (row : Option ℕ) → length codes ≡ rows → row ≡ place_among (length codes) (first_bad_label codes labels)
+    → row ≡ None → Clean (bad_label codes labels) rows
+labels_clean codes labels rows row e f g =
     let bad : ℕ → Bool = bad_label codes labels in
-    let q : walk bad (length codes) 0 ≡ rows = omega (arith, walk_most bad (length codes)) in
+    let q : walk bad (length codes) 0 ≡ rows =
+    omega (arith, place_none (length codes) (first_bad_label codes labels) (sym f ∙ g), walk_most bad (length codes)) in
     subst (λ n. Clean bad n) q (clean_walk bad (length codes))
 
-module _ (s : Sheet) (doubles : Doubles s) (c : ℕ) (p : Passed s c) (e : T (ends_hold s c)) where
-  double : (i : ℕ) → T (fits binary64 (value_at s c i))
-  unfolding value_at value_of
-  double i = doubles (c * s.rows + row_at s c i)
-
+module _ (s : Sheet) (c : ℕ) (p : Passed s c) (e : T (ends_hold s c)) where
   low_end : T (within (value_at s c 0))
   low_end = and_left (within (value_at s c 0)) (within (value_at s c (s.rows - 1))) e
 
@@ -81,9 +76,9 @@ module _ (s : Sheet) (doubles : Doubles s) (c : ℕ) (p : Passed s c) (e : T (en
       before i = omega arith
 
   number : (i : ℕ) → i < s.rows → T (comparable (value_at s c i))
-  number zero h = measured_comparable (value_at s c 0) (record { double = double 0; limited = low_end })
+  number zero h = measured_comparable (value_at s c 0) (record { double = p.double 0; limited = low_end })
   number (suc i) h =
-      and_both (fits binary64 (value_at s c (suc i))) (not (is_nan (value_at s c (suc i)))) (double (suc i))
+      and_both (fits binary64 (value_at s c (suc i))) (not (is_nan (value_at s c (suc i)))) (p.double (suc i))
       (above_number (value_at s c i) (value_at s c (suc i)) (climb i h))
 
   -- from one place to another
@@ -149,18 +144,45 @@ module _ (s : Sheet) (some : 1 ≤ s.rows) where
             (f (j / s.rows) (j % s.rows) ((div-lt_iff_lt-mul some).1 h) (mod-lt j some)));
       }
 
-  pub accepted : Doubles s → Clean (bad_label s.codes s.labels) s.rows → ((c : ℕ) → c < s.columns → Passed s c × T (ends_hold s c))
-      → content_of s ≡ Accepted
+  -- no place fails the test, so the reason is not given
+  goes_on : (why : Reason) (places : ℕ) (bad : ℕ → Bool) (rest : Verdict) → Clean bad places → {r : Verdict} → r ≡ rest → r ≡ reason why places bad rest
+  goes_on why places bad rest clean = reason_past why places bad rest (omega (arith, clean_all clean refl))
+
+  pub accepted : Clean (bad_label s.codes s.labels) s.rows → ((c : ℕ) → c < s.columns → Passed s c × T (ends_hold s c))
+      → content_of s ≡ Ok tt
   unfolding bad_cuts
-  accepted doubles labels f =
+  accepted labels f =
       content s
       ∙ sym
-      (reason_go value_outside (cells_of s) (bad_value s.values) (rest6 s) (cells_of s)
-      (clean_all (values_clean (λ c r h g. in_range s doubles c (f c h).0 (f c h).1 r g)) refl) (omega arith)
-      (reason_go label_high s.rows (bad_label s.codes s.labels) (rest7 s) s.rows (clean_all labels refl) (omega arith)
-      (reason_go order_wrong (cells_of s) (at_index (bad_order s) s.rows) (rest8 s) (cells_of s)
-      (clean_all (columns_clean (bad_order s) (λ c i h g. (f c h).0.in_order i g)) refl) (omega arith)
-      (reason_go value_falls (cells_of s) (at_index (falls s) s.rows) (rest9 s) (cells_of s)
-      (clean_all (columns_clean (falls s) (λ c i h g. no_fall s doubles c (f c h).0 (f c h).1 i g)) refl) (omega arith)
-      (reason_go cuts_wrong s.columns (bad_cuts s) Accepted s.columns
-      (clean_all (record { none = λ c h. not_not (same (places_of s c) (cuts_of s c)) (f c h).0.matches }) refl) (omega arith) refl)))))
+      (goes_on ValueOutside (cells_of s) (bad_value s.values) (rest6 s)
+      (values_clean (λ c r h g. in_range s c (f c h).0 (f c h).1 r g))
+      (goes_on LabelHigh s.rows (bad_label s.codes s.labels) (rest7 s) labels
+      (goes_on OrderWrong (cells_of s) (at_index (bad_order s) s.rows) (rest8 s)
+      (columns_clean (bad_order s) (λ c i h g. (f c h).0.in_order i g))
+      (goes_on ValueFalls (cells_of s) (at_index (falls s) s.rows) (rest9 s)
+      (columns_clean (falls s) (λ c i h g. no_fall s c (f c h).0 (f c h).1 i g))
+      (goes_on CutsWrong s.columns (bad_cuts s) (Ok tt)
+      (record { none = λ c h. not_not (same (places_of s c) (cuts_of s c)) (f c h).0.matches }) refl)))))
+
+-- reason 7 ruled out: every entry of the order list is a row
+pub listed : (s : Sheet) → Shaped s → (place : Option ℕ) → place ≡ place_among (s.columns * s.rows) (walk (at_index (bad_order s) s.rows) (s.columns * s.rows) 0)
+    → place ≡ None → Ordered s
+unfolding bad_order
+listed s h place is e =
+    let bad : ℕ → Bool = at_index (bad_order s) s.rows in
+    let q : walk bad (s.columns * s.rows) 0 ≡ s.columns * s.rows =
+    omega (arith, place_none (s.columns * s.rows) (walk bad (s.columns * s.rows) 0) (sym is ∙ e), walk_most bad (s.columns * s.rows)) in
+    let clean : Clean bad (s.columns * s.rows) = subst (λ n. Clean bad n) q (clean_walk bad (s.columns * s.rows)) in
+    record {
+      shaped = h;
+      column = λ c g.
+          record {
+            shaped = h;
+            column_in = g;
+            in_rows = λ i l.
+                nleb→lt s.rows (row_at s c i)
+                (nor_left (leb s.rows (row_at s c i)) (met s c i)
+                (subst (λ b. T (not b)) (sym (at_column (bad_order s) h.limited.rows_some c i l))
+                (clean.none (c * s.rows + i) (omega (arith, column_in s.rows s.columns c g)))));
+          };
+    }

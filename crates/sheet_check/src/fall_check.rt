@@ -1,41 +1,40 @@
 // Reason 8 of the input check: along the order list the values of a column ascend.
-ghost use Rattle.std.specs.Prelude.{◌≡◌, ◌*◌, ◌<◌, []};
-ghost use Rattle.basics.specs.Walk.{walk};
-ghost use Rattle.sheet.specs.Check.{sheet_of, falls, at_index};
-ghost use Rattle.sheet.specs.Ready.{Listed};
+ghost use Rattle.std.specs.Prelude.{◌≡◌, ◌*◌};
+ghost use Rattle.basics.specs.Walk.{walk, place_among};
+ghost use Rattle.sheet.specs.Check.{falls, at_index};
+ghost use Rattle.sheet.specs.Lent.{sheet_in};
+ghost use Rattle.sheet.specs.Ready.{Listed, Ordered};
 
-use sheet::Size;
+use sheet::lent::LentSheet;
 
-// The first sorted place of the column whose value is below its predecessor; rows if there is none.
-fn first_fall_place(size: Size, values: &[f64], order: &[u16], column: usize) -> usize
-    requires { Listed size values.now order.now × (column < size.columns) }
-    ensures { result ≡ walk (falls (sheet_of size values.now [] order.now [] []) column) size.rows 0 }
+// The first sorted place of the column whose value is below its predecessor.
+fn first_fall_place(sheet: &LentSheet, column: usize) -> Option<usize>
+    requires { Listed (sheet_in sheet.now) column }
+    ensures { let s = sheet_in sheet.now in result ≡ place_among s.rows (walk (falls s column) s.rows 0) }
 {
-    let base = column * size.rows;
-    let mut here: usize = 1;
-    while here < size.rows {
-        if sheet::value_at(values, order, base, here)
-            < sheet::value_at(values, order, base, here - 1)
+    let values = sheet.measured.values;
+    let rows = sheet.measured.size.rows;
+    let base = column * rows;
+    for here in 1..rows {
+        if sheet::value_at(values, sheet.order, base, here)
+            < sheet::value_at(values, sheet.order, base, here - 1)
         {
-            return here;
+            return Some(here);
         }
-        here += 1;
     }
-    here
+    None
 }
 
-// The first index of the order list whose value is below its predecessor in its column; the list's length if there is none.
-pub(crate) fn first_fall(size: Size, values: &[f64], order: &[u16]) -> usize
-    requires { Listed size values.now order.now }
-    ensures { result ≡ walk (at_index (falls (sheet_of size values.now [] order.now [] [])) size.rows) (size.columns * size.rows) 0 }
+// The first index of the order list whose value is below its predecessor in its column.
+pub(crate) fn first_fall(sheet: &LentSheet) -> Option<usize>
+    requires { Ordered (sheet_in sheet.now) }
+    ensures { let s = sheet_in sheet.now in result ≡ place_among (s.columns * s.rows) (walk (at_index (falls s) s.rows) (s.columns * s.rows) 0) }
 {
-    let mut column: usize = 0;
-    while column < size.columns {
-        let fall = first_fall_place(size, values, order, column);
-        if fall < size.rows {
-            return column * size.rows + fall;
+    let size = sheet.measured.size;
+    for column in 0..size.columns {
+        if let Some(fall) = first_fall_place(sheet, column) {
+            return Some(column * size.rows + fall);
         }
-        column += 1;
     }
-    column * size.rows
+    None
 }

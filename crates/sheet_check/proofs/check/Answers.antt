@@ -9,14 +9,17 @@ use lib.ListN.{length, take, drop, replicate}
 use lib.Seq.{length-take-le, drop-append-add, drop-drop}
 use lib.Dec.{leb, le→leb}
 use Rattle.basics.proofs.Choice.{pick_true}
-use Rattle.sheet.specs.declared.Checked.{Checked}
-use Rattle.sheet.specs.declared.Checked.TheVariants.{Refused}
+use Rattle.std.specs.Prelude.{Err}
+use Rattle.sheet.specs.declared.refusals.Reason.{Reason}
+use Rattle.sheet.specs.declared.refusals.Reason.TheVariants.{SizeOutside, LengthWrong, ScratchShort, TermAbove}
+use Rattle.sheet.specs.declared.refusals.Refusal.{Refusal}
+use Rattle.sheet.specs.Reasons.{number_of, refused}
+use Rattle.sheet.specs.Lent.{sheet_in}
 use Rattle.sheet.specs.declared.Terms.{Terms}
 use Rattle.sheet.specs.Limits.{words_per_row}
-use Rattle.sheet.specs.Reasons.{size_outside, length_wrong, scratch_short, term_above}
 use Rattle.sheet.specs.Sheet.{Sheet}
 use Rattle.sheet.specs.Sound.{Limited}
-use Rattle.sheet.specs.Check.{sheet_of, size_holds, lengths_hold, scratch_holds, terms_hold, content_of, check_of, cleared, scratch_after}
+use Rattle.sheet.specs.Check.{size_holds, lengths_hold, scratch_holds, terms_hold, Verdict, content_of, check_of, cleared, scratch_after}
 use Rattle.sheet.specs.Ready.{Shaped}
 use Rattle.sheet.proofs.Search.{truth, untruth}
 use Rattle.sheet.proofs.Answer.{limited, measured_lists, rest2, rest3, rest4}
@@ -26,43 +29,47 @@ use Rattle.sheet_check.proofs.check.Goals as goal
 -- ---- a reason that was found is the answer, and one ruled out hands on to the next
 
 module _ (s : Sheet) (t : Terms) (n : ℕ) {b : Bool} where
-  stop1 : b ≡ size_holds s.rows s.columns s.labels → b ≡ false → Refused size_outside 0 ≡ check_of s t n
+  stop1 : b ≡ size_holds s.rows s.columns s.labels → b ≡ false → Err (refused SizeOutside 0) ≡ check_of s t n
   stop1 e f =
-      whole_stop size_outside (size_holds s.rows s.columns s.labels) (rest2 s t n) (untruth (sym e ∙ f)) ∙ sym (checked s t n)
+      whole_stop SizeOutside (size_holds s.rows s.columns s.labels) (rest2 s t n) (untruth (sym e ∙ f)) ∙ sym (checked s t n)
 
-  go1 : b ≡ size_holds s.rows s.columns s.labels → b ≡ true → {r : Checked} → r ≡ rest2 s t n → r ≡ check_of s t n
+  go1 : b ≡ size_holds s.rows s.columns s.labels → b ≡ true → {r : Verdict} → r ≡ rest2 s t n → r ≡ check_of s t n
   go1 e f g =
-      whole_go size_outside (size_holds s.rows s.columns s.labels) (rest2 s t n) (truth (sym e ∙ f)) g ∙ sym (checked s t n)
+      whole_go SizeOutside (size_holds s.rows s.columns s.labels) (rest2 s t n) (truth (sym e ∙ f)) g ∙ sym (checked s t n)
 
-  stop2 : b ≡ lengths_hold s → b ≡ false → Refused length_wrong 0 ≡ rest2 s t n
-  stop2 e f = whole_stop length_wrong (lengths_hold s) (rest3 s t n) (untruth (sym e ∙ f))
+  stop2 : b ≡ lengths_hold s → b ≡ false → Err (refused LengthWrong 0) ≡ rest2 s t n
+  stop2 e f = whole_stop LengthWrong (lengths_hold s) (rest3 s t n) (untruth (sym e ∙ f))
 
-  go2 : b ≡ lengths_hold s → b ≡ true → {r : Checked} → r ≡ rest3 s t n → r ≡ rest2 s t n
-  go2 e f = whole_go length_wrong (lengths_hold s) (rest3 s t n) (truth (sym e ∙ f))
+  go2 : b ≡ lengths_hold s → b ≡ true → {r : Verdict} → r ≡ rest3 s t n → r ≡ rest2 s t n
+  go2 e f = whole_go LengthWrong (lengths_hold s) (rest3 s t n) (truth (sym e ∙ f))
 
-  stop4 : b ≡ terms_hold t → b ≡ false → Refused term_above 0 ≡ rest4 s t n
-  stop4 e f = whole_stop term_above (terms_hold t) (content_of s) (untruth (sym e ∙ f))
+  stop4 : b ≡ terms_hold t → b ≡ false → Err (refused TermAbove 0) ≡ rest4 s t n
+  stop4 e f = whole_stop TermAbove (terms_hold t) (content_of s) (untruth (sym e ∙ f))
 
-  go4 : b ≡ terms_hold t → b ≡ true → {r : Checked} → r ≡ content_of s → r ≡ rest4 s t n
-  go4 e f = whole_go term_above (terms_hold t) (content_of s) (truth (sym e ∙ f))
+  go4 : b ≡ terms_hold t → b ≡ true → {r : Verdict} → r ≡ content_of s → r ≡ rest4 s t n
+  go4 e f = whole_go TermAbove (terms_hold t) (content_of s) (truth (sym e ∙ f))
 
 module _ (s : Sheet) (t : Terms) (n : ℕ) where
-  stop3 : n < words_per_row * s.rows → Refused scratch_short 0 ≡ rest3 s t n
+  stop3 : n < words_per_row * s.rows → Err (refused ScratchShort 0) ≡ rest3 s t n
   unfolding scratch_holds
-  stop3 h = whole_stop scratch_short (scratch_holds s n) (rest4 s t n) (untruth (lt-leb (words_per_row * s.rows) n h))
+  stop3 h = whole_stop ScratchShort (scratch_holds s n) (rest4 s t n) (untruth (lt-leb (words_per_row * s.rows) n h))
 
-  go3 : words_per_row * s.rows ≤ n → {r : Checked} → r ≡ rest4 s t n → r ≡ rest3 s t n
+  go3 : words_per_row * s.rows ≤ n → {r : Verdict} → r ≡ rest4 s t n → r ≡ rest3 s t n
   unfolding scratch_holds
-  go3 h = whole_go scratch_short (scratch_holds s n) (rest4 s t n) (truth (le-leb (words_per_row * s.rows) n h))
+  go3 h = whole_go ScratchShort (scratch_holds s n) (rest4 s t n) (truth (le-leb (words_per_row * s.rows) n h))
 
 in_shape : (s : Sheet) {a b : Bool} → a ≡ size_holds s.rows s.columns s.labels → a ≡ true → b ≡ lengths_hold s → b ≡ true → Shaped s
 in_shape s e f g h = record { limited = limited s (truth (sym e ∙ f)); lengths = measured_lists s (truth (sym g ∙ h)) }
 
 -- ---- scratch is as it came after these
 
-untouched : (number rows : ℕ) (scratch : List ℕ) → number ≤ term_above → scratch ≡ scratch_after (Refused number 0) rows scratch
+untouched : (why : Reason) (rows : ℕ) (scratch : List ℕ) → number_of why ≤ 4 → (told : Refusal) → told ≡ refused why 0
+    → scratch ≡ scratch_after (Err told) rows scratch
 unfolding scratch_after
-untouched number rows scratch h = sym (pick_true (leb number term_above) scratch (cleared (words_per_row * rows) scratch) (le→leb number term_above h))
+untouched why rows scratch h told e =
+    sym
+    (ap (λ (r : Refusal). scratch_after (Err r) rows scratch) e
+    ∙ pick_true (leb (number_of why) 4) scratch (cleared (words_per_row * rows) scratch) (le→leb (number_of why) 4 h))
 
 -- what was lent of it is part of what is cleared
 front_cleared : (n rows : ℕ) (part scratch : List ℕ) → length part ≡ length (take rows scratch) → rows ≤ n → n ≤ length scratch
@@ -80,86 +87,83 @@ front_cleared n rows part scratch e h g =
 
 pub returns-then-not-size_holds : goal.returns-then-not-size_holds
 returns-then-not-size_holds c =
-    let a = c.args in
-    let s : Sheet = sheet_of a.size a.values.now a.codes.now a.order.now a.cuts.now a.counts.now in
+    let s : Sheet = sheet_in c.args.sheet.now in
+    let t : Terms = c.args.terms in
+    let n : ℕ = length c.args.scratch.now in
+    let told = c.whole.ensures in
     record {
-      answers = stop1 s a.terms (length a.scratch.now) c.size_holds.ensures c.if-not-size_holds.true;
-      words = untouched size_outside a.size.rows a.scratch.now (omega arith);
+      answers = ap (λ (r : Refusal). Err r) told ∙ stop1 s t n c.size_holds.ensures c.if-not-size_holds.true;
+      words = untouched SizeOutside s.rows c.args.scratch.now (omega arith) _ told;
     }
 
 pub lengths_hold-requires : goal.lengths_hold-requires
 lengths_hold-requires c =
-    let a = c.args in
-    let s : Sheet = sheet_of a.size a.values.now a.codes.now a.order.now a.cuts.now a.counts.now in
-    let h : Limited s = limited s (truth (sym c.size_holds.ensures ∙ c.if-not-size_holds.false)) in
-    record { rows_some = h.rows_some; rows_most = h.rows_most; columns_most = h.columns_most }
+    limited (sheet_in c.args.sheet.now) (truth (sym c.size_holds.ensures ∙ c.if-not-size_holds.false))
 
 pub returns-then-not-lengths_hold : goal.returns-then-not-lengths_hold
 returns-then-not-lengths_hold c =
-    let a = c.args in
-    let s : Sheet = sheet_of a.size a.values.now a.codes.now a.order.now a.cuts.now a.counts.now in
-    let n : ℕ = length a.scratch.now in
+    let s : Sheet = sheet_in c.args.sheet.now in
+    let t : Terms = c.args.terms in
+    let n : ℕ = length c.args.scratch.now in
+    let told = c.whole-then-not-lengths_hold.ensures in
     record {
-      answers =
-          go1 s a.terms n c.size_holds.ensures c.if-not-size_holds.false (stop2 s a.terms n c.lengths_hold.ensures c.if-not-lengths_hold.true);
-      words = untouched length_wrong a.size.rows a.scratch.now (omega arith);
+      answers = ap (λ (r : Refusal). Err r) told ∙ go1 s t n c.size_holds.ensures c.if-not-size_holds.false (stop2 s t n c.lengths_hold.ensures c.if-not-lengths_hold.true);
+      words = untouched LengthWrong s.rows c.args.scratch.now (omega arith) _ told;
     }
 
 pub overflow_mul-words : goal.overflow_mul-words
 overflow_mul-words c =
-    let a = c.args in
-    let s : Sheet = sheet_of a.size a.values.now a.codes.now a.order.now a.cuts.now a.counts.now in
-    let h : Limited s = limited s (truth (sym c.size_holds.ensures ∙ c.if-not-size_holds.false)) in
+    let h : Limited (sheet_in c.args.sheet.now) = limited (sheet_in c.args.sheet.now) (truth (sym c.size_holds.ensures ∙ c.if-not-size_holds.false)) in
     omega (arith, h.rows_most)
 
 pub returns-then-scratch-words : goal.returns-then-scratch-words
 returns-then-scratch-words c =
-    let a = c.args in
-    let s : Sheet = sheet_of a.size a.values.now a.codes.now a.order.now a.cuts.now a.counts.now in
-    let n : ℕ = length a.scratch.now in
+    let s : Sheet = sheet_in c.args.sheet.now in
+    let t : Terms = c.args.terms in
+    let n : ℕ = length c.args.scratch.now in
+    let told = c.whole-then-scratch-words.ensures in
     record {
-      answers =
-          go1 s a.terms n c.size_holds.ensures c.if-not-size_holds.false
-          (go2 s a.terms n c.lengths_hold.ensures c.if-not-lengths_hold.false (stop3 s a.terms n c.if-scratch-words.true));
-      words = untouched scratch_short a.size.rows a.scratch.now (omega arith);
+      answers = ap (λ (r : Refusal). Err r) told ∙ go1 s t n c.size_holds.ensures c.if-not-size_holds.false
+          (go2 s t n c.lengths_hold.ensures c.if-not-lengths_hold.false (stop3 s t n c.if-scratch-words.true));
+      words = untouched ScratchShort s.rows c.args.scratch.now (omega arith) _ told;
     }
 
 pub returns-then-not-terms_hold : goal.returns-then-not-terms_hold
 returns-then-not-terms_hold c =
-    let a = c.args in
-    let s : Sheet = sheet_of a.size a.values.now a.codes.now a.order.now a.cuts.now a.counts.now in
-    let n : ℕ = length a.scratch.now in
+    let s : Sheet = sheet_in c.args.sheet.now in
+    let t : Terms = c.args.terms in
+    let n : ℕ = length c.args.scratch.now in
+    let told = c.whole-then-not-terms_hold.ensures in
     record {
-      answers =
-          go1 s a.terms n c.size_holds.ensures c.if-not-size_holds.false
-          (go2 s a.terms n c.lengths_hold.ensures c.if-not-lengths_hold.false
-          (go3 s a.terms n c.if-scratch-words.false (stop4 s a.terms n c.terms_hold.ensures c.if-not-terms_hold.true)));
-      words = untouched term_above a.size.rows a.scratch.now (omega arith);
+      answers = ap (λ (r : Refusal). Err r) told ∙ go1 s t n c.size_holds.ensures c.if-not-size_holds.false
+          (go2 s t n c.lengths_hold.ensures c.if-not-lengths_hold.false
+          (go3 s t n c.if-scratch-words.false (stop4 s t n c.terms_hold.ensures c.if-not-terms_hold.true)));
+      words = untouched TermAbove s.rows c.args.scratch.now (omega arith) _ told;
     }
 
 pub check_lists-answer-requires : goal.check_lists-answer-requires
 check_lists-answer-requires c =
-    let a = c.args in
-    let s : Sheet = sheet_of a.size a.values.now a.codes.now a.order.now a.cuts.now a.counts.now in (
+    let s : Sheet = sheet_in c.args.sheet.now in (
       in_shape s c.size_holds.ensures c.if-not-size_holds.false c.lengths_hold.ensures c.if-not-lengths_hold.false,
-      length-take-le a.size.rows a.scratch.now (omega (arith, c.if-scratch-words.false)),
+      length-take-le s.rows c.args.scratch.now (omega (arith, c.if-scratch-words.false)),
     )
 
 pub returns : goal.returns
 returns c =
-    let a = c.args in
-    let s : Sheet = sheet_of a.size a.values.now a.codes.now a.order.now a.cuts.now a.counts.now in
-    let n : ℕ = length a.scratch.now in
+    let s : Sheet = sheet_in c.args.sheet.now in
+    let t : Terms = c.args.terms in
+    let n : ℕ = length c.args.scratch.now in
+    let scratch = c.args.scratch.now in
     record {
       answers =
-          go1 s a.terms n c.size_holds.ensures c.if-not-size_holds.false
-          (go2 s a.terms n c.lengths_hold.ensures c.if-not-lengths_hold.false
-          (go3 s a.terms n c.if-scratch-words.false
-          (go4 s a.terms n c.terms_hold.ensures c.if-not-terms_hold.false c.check_lists-answer.ensures)));
+          go1 s t n c.size_holds.ensures c.if-not-size_holds.false
+          (go2 s t n c.lengths_hold.ensures c.if-not-lengths_hold.false
+          (go3 s t n c.if-scratch-words.false
+          (go4 s t n c.terms_hold.ensures c.if-not-terms_hold.false c.check_lists-answer.ensures)));
       words =
           c.clear.ensures
-          ∙ front_cleared (words_per_row * a.size.rows) a.size.rows c.check_lists-answer.new.marks a.scratch.now
-          c.check_lists-answer.auto.marks (omega arith) c.if-scratch-words.false
-          ∙ sym (content_clears s a.size.rows a.scratch.now)
-          ∙ ap (λ r. scratch_after r a.size.rows a.scratch.now) (sym c.check_lists-answer.ensures);
+          ∙ front_cleared (words_per_row * s.rows) s.rows c.check_lists-answer.new.marks scratch c.check_lists-answer.auto.marks (omega arith)
+          c.if-scratch-words.false
+          ∙ sym (content_clears s s.rows scratch)
+          ∙ ap (λ r. scratch_after r s.rows scratch) (sym c.check_lists-answer.ensures);
     }

@@ -1,146 +1,111 @@
--- `sheet_check::first_reason` meets its contract: each search found the place that its reason reports, or none, and then the next one goes on. Assumes
--- nothing.
+-- `sheet_check::first_reason` meets its contract: each search found the place that its reason reports, or none, and then the next one goes on.
 use mathlib.Core.Path.{◌≡◌, refl, sym, ap, ◌∙◌}
-use Prim.Native.Nat.{ℕ, ◌*◌, ◌≤◌, ◌<◌}
-use mathlib.Core.List.{List, []}
-use native.Mathlib.Omega.{arith}
+use Prim.Native.Nat.{ℕ}
 use lib.ListN.{length}
-use lib.Ieee.{Float}
-use Rattle.basics.specs.Walk.{walk}
-use Rattle.sheet.specs.declared.Size.{Size}
-use Rattle.sheet.specs.declared.Checked.{Checked}
-use Rattle.sheet.specs.declared.Checked.TheVariants.{Accepted, Refused}
-use Rattle.sheet.specs.Reasons.{value_outside, label_high, order_wrong, value_falls, cuts_wrong}
+use Rattle.std.specs.Prelude.{Option, Some, None, Err, Ok}
+use Rattle.basics.specs.Walk.{walk, place_among}
+use Rattle.sheet.specs.Reasons.{refused}
+use Rattle.sheet.specs.declared.refusals.Reason.TheVariants.{ValueOutside, LabelHigh, OrderWrong, ValueFalls, CutsWrong}
+use Rattle.sheet.specs.declared.refusals.Refusal.{Refusal}
 use Rattle.sheet.specs.Sheet.{Sheet}
-use Rattle.sheet.specs.Check.{sheet_of, cells_of, bad_value, first_bad_value, bad_label, first_bad_label, bad_order, falls, bad_cuts, at_index, content_of}
-use Rattle.sheet.specs.Ready.{Listed, Shaped}
+use Rattle.sheet.specs.Check.{cells_of, bad_value, first_bad_value, bad_label, first_bad_label, bad_order, falls, bad_cuts, at_index, Verdict, content_of}
+use Rattle.sheet.specs.Ready.{Shaped}
+use Rattle.sheet.specs.Lent.{sheet_in}
 use Rattle.sheet.proofs.Answer.{rest6, rest7, rest8, rest9}
-use Rattle.sheet_check.proofs.Found.{reason_stop, reason_go, content, order_part, falls_part, cuts_part, listed}
+use Rattle.sheet_check.proofs.Found.{reason_stop, reason_go, content}
+use Rattle.sheet_check.proofs.Whole.{listed}
 use Rattle.sheet_check.proofs.first_reason.Goals as goal
 
--- ---- each search found the first place of its own, over as many places as the sheet has: that place is the answer, or the next reason goes on
+-- ---- what each search found is the answer, or the next reason goes on
 
-module _ (size : Size) (values : List Float) (codes order cuts counts : List ℕ) (shaped : Shaped (sheet_of size values codes order cuts counts)) where
-  abbrev s : Sheet
-  s = sheet_of size values codes order cuts counts
+module _ (s : Sheet) (shaped : Shaped s) where
+  module _ (place : Option ℕ) (is : place ≡ place_among (length s.values) (first_bad_value s.values)) where
+    stop5 : (p : ℕ) → place ≡ Some p → Err (refused ValueOutside p) ≡ content_of s
+    stop5 p e = reason_stop ValueOutside (cells_of s) (bad_value s.values) (rest6 s) (length s.values) shaped.lengths.values_all place is p e ∙ sym (content s)
 
-  module _ (p : ℕ) (e : p ≡ first_bad_value values) where
-    at5 : p ≡ walk (bad_value values) (cells_of s) 0
-    at5 = e ∙ ap (λ (n : ℕ). walk (bad_value values) n 0) shaped.lengths.values_all
+    go5 : place ≡ None → {r : Verdict} → r ≡ rest6 s → r ≡ content_of s
+    go5 e f = reason_go ValueOutside (cells_of s) (bad_value s.values) (rest6 s) (length s.values) shaped.lengths.values_all place is e f ∙ sym (content s)
 
-    stop5 : p < length values → Refused value_outside p ≡ content_of s
-    stop5 h =
-        reason_stop value_outside (cells_of s) (bad_value values) (rest6 s) p at5 (omega (arith, h, shaped.lengths.values_all)) ∙ sym (content s)
+  module _ (place : Option ℕ) (is : place ≡ place_among (length s.codes) (first_bad_label s.codes s.labels)) where
+    stop6 : (p : ℕ) → place ≡ Some p → Err (refused LabelHigh p) ≡ rest6 s
+    stop6 = reason_stop LabelHigh s.rows (bad_label s.codes s.labels) (rest7 s) (length s.codes) shaped.lengths.codes_all place is
 
-    go5 : length values ≤ p → {r : Checked} → r ≡ rest6 s → r ≡ content_of s
-    go5 h f =
-        reason_go value_outside (cells_of s) (bad_value values) (rest6 s) p at5 (omega (arith, h, shaped.lengths.values_all)) f ∙ sym (content s)
+    go6 : place ≡ None → {r : Verdict} → r ≡ rest7 s → r ≡ rest6 s
+    go6 = reason_go LabelHigh s.rows (bad_label s.codes s.labels) (rest7 s) (length s.codes) shaped.lengths.codes_all place is
 
-  module _ (p : ℕ) (e : p ≡ first_bad_label codes size.labels) where
-    at6 : p ≡ walk (bad_label codes size.labels) size.rows 0
-    at6 = e ∙ ap (λ (n : ℕ). walk (bad_label codes size.labels) n 0) shaped.lengths.codes_all
+  module _ (place : Option ℕ) (is : place ≡ place_among (cells_of s) (walk (at_index (bad_order s) s.rows) (cells_of s) 0)) where
+    stop7 : (p : ℕ) → place ≡ Some p → Err (refused OrderWrong p) ≡ rest7 s
+    stop7 = reason_stop OrderWrong (cells_of s) (at_index (bad_order s) s.rows) (rest8 s) (cells_of s) refl place is
 
-    stop6 : p < length codes → Refused label_high p ≡ rest6 s
-    stop6 h = reason_stop label_high size.rows (bad_label codes size.labels) (rest7 s) p at6 (omega (arith, h, shaped.lengths.codes_all))
+    go7 : place ≡ None → {r : Verdict} → r ≡ rest8 s → r ≡ rest7 s
+    go7 = reason_go OrderWrong (cells_of s) (at_index (bad_order s) s.rows) (rest8 s) (cells_of s) refl place is
 
-    go6 : length codes ≤ p → {r : Checked} → r ≡ rest7 s → r ≡ rest6 s
-    go6 h f = reason_go label_high size.rows (bad_label codes size.labels) (rest7 s) p at6 (omega (arith, h, shaped.lengths.codes_all)) f
+  module _ (place : Option ℕ) (is : place ≡ place_among (cells_of s) (walk (at_index (falls s) s.rows) (cells_of s) 0)) where
+    stop8 : (p : ℕ) → place ≡ Some p → Err (refused ValueFalls p) ≡ rest8 s
+    stop8 = reason_stop ValueFalls (cells_of s) (at_index (falls s) s.rows) (rest9 s) (cells_of s) refl place is
 
-  module _ (p : ℕ) (e : p ≡ walk (at_index (bad_order (sheet_of size [] [] order [] [])) size.rows) (size.columns * size.rows) 0) where
-    at7 : p ≡ walk (at_index (bad_order s) size.rows) (cells_of s) 0
-    at7 = e ∙ order_part size values codes order cuts counts (cells_of s)
+    go8 : place ≡ None → {r : Verdict} → r ≡ rest9 s → r ≡ rest8 s
+    go8 = reason_go ValueFalls (cells_of s) (at_index (falls s) s.rows) (rest9 s) (cells_of s) refl place is
 
-    stop7 : p < length order → Refused order_wrong p ≡ rest7 s
-    stop7 h =
-        reason_stop order_wrong (cells_of s) (at_index (bad_order s) size.rows) (rest8 s) p at7 (omega (arith, h, shaped.lengths.order_all))
+  module _ (place : Option ℕ) (is : place ≡ place_among s.columns (walk (bad_cuts s) s.columns 0)) where
+    stop9 : (p : ℕ) → place ≡ Some p → Err (refused CutsWrong p) ≡ rest9 s
+    stop9 = reason_stop CutsWrong s.columns (bad_cuts s) (Ok tt) s.columns refl place is
 
-    go7 : length order ≤ p → {r : Checked} → r ≡ rest8 s → r ≡ rest7 s
-    go7 h f =
-        reason_go order_wrong (cells_of s) (at_index (bad_order s) size.rows) (rest8 s) p at7 (omega (arith, h, shaped.lengths.order_all)) f
-
-    clean7 : length order ≤ p → Listed size values order
-    clean7 h = listed size values codes order cuts counts shaped p e (omega (arith, h, shaped.lengths.order_all))
-
-  module _ (p : ℕ) (e : p ≡ walk (at_index (falls (sheet_of size values [] order [] [])) size.rows) (size.columns * size.rows) 0) where
-    at8 : p ≡ walk (at_index (falls s) size.rows) (cells_of s) 0
-    at8 = e ∙ falls_part size values codes order cuts counts (cells_of s)
-
-    stop8 : p < length order → Refused value_falls p ≡ rest8 s
-    stop8 h = reason_stop value_falls (cells_of s) (at_index (falls s) size.rows) (rest9 s) p at8 (omega (arith, h, shaped.lengths.order_all))
-
-    go8 : length order ≤ p → {r : Checked} → r ≡ rest9 s → r ≡ rest8 s
-    go8 h f = reason_go value_falls (cells_of s) (at_index (falls s) size.rows) (rest9 s) p at8 (omega (arith, h, shaped.lengths.order_all)) f
-
-  module _ (p : ℕ) (e : p ≡ walk (bad_cuts (sheet_of size values [] order cuts counts)) size.columns 0) where
-    at9 : p ≡ walk (bad_cuts s) size.columns 0
-    at9 = e ∙ cuts_part size values codes order cuts counts size.columns
-
-    stop9 : p < length counts → Refused cuts_wrong p ≡ rest9 s
-    stop9 h = reason_stop cuts_wrong size.columns (bad_cuts s) Accepted p at9 (omega (arith, h, shaped.lengths.counts_all))
-
-    go9 : length counts ≤ p → Accepted ≡ rest9 s
-    go9 h = reason_go cuts_wrong size.columns (bad_cuts s) Accepted p at9 (omega (arith, h, shaped.lengths.counts_all)) refl
+    go9 : place ≡ None → Ok tt ≡ rest9 s
+    go9 e = reason_go CutsWrong s.columns (bad_cuts s) (Ok tt) s.columns refl place is e refl
 
 -- ---- the goals
 
-pub returns-then-value-values : goal.returns-then-value-values
-returns-then-value-values c =
-    let a = c.args in
-    stop5 a.size a.values.now a.codes.now a.order.now a.cuts.now a.counts.now c.requires.0 _ c.first_bad_value-value.ensures c.if-value-values.true
+pub returns-in-Some : goal.returns-in-Some
+returns-in-Some c =
+    let s : Sheet = sheet_in c.args.sheet.now in
+    ap (λ (r : Refusal). Err r) c.at.ensures ∙ stop5 s c.requires.0 _ c.first_bad_value.ensures _ c.in-Some.is
 
-pub returns-then-row-codes : goal.returns-then-row-codes
-returns-then-row-codes c =
-    let a = c.args in
-    go5 a.size a.values.now a.codes.now a.order.now a.cuts.now a.counts.now c.requires.0 _ c.first_bad_value-value.ensures c.if-value-values.false
-    (stop6 a.size a.values.now a.codes.now a.order.now a.cuts.now a.counts.now c.requires.0 _ c.first_bad_label-row.ensures c.if-row-codes.true)
+pub returns-in-Some-first_bad_label : goal.returns-in-Some-first_bad_label
+returns-in-Some-first_bad_label c =
+    let s : Sheet = sheet_in c.args.sheet.now in
+    ap (λ (r : Refusal). Err r) c.at-in-Some-first_bad_label.ensures
+    ∙ go5 s c.requires.0 _ c.first_bad_value.ensures c.in_default.is
+    (stop6 s c.requires.0 _ c.first_bad_label.ensures _ c.in-Some-first_bad_label.is)
 
-pub returns-then-entry-order : goal.returns-then-entry-order
-returns-then-entry-order c =
-    let a = c.args in
-    go5 a.size a.values.now a.codes.now a.order.now a.cuts.now a.counts.now c.requires.0 _ c.first_bad_value-value.ensures c.if-value-values.false
-    (go6 a.size a.values.now a.codes.now a.order.now a.cuts.now a.counts.now c.requires.0 _ c.first_bad_label-row.ensures c.if-row-codes.false
-    (stop7 a.size a.values.now a.codes.now a.order.now a.cuts.now a.counts.now c.requires.0 _ c.first_bad_order-entry.ensures c.if-entry-order.true))
+pub returns-in-Some-first_bad_order : goal.returns-in-Some-first_bad_order
+returns-in-Some-first_bad_order c =
+    let s : Sheet = sheet_in c.args.sheet.now in
+    ap (λ (r : Refusal). Err r) c.at-in-Some-first_bad_order.ensures
+    ∙ go5 s c.requires.0 _ c.first_bad_value.ensures c.in_default.is
+    (go6 s c.requires.0 _ c.first_bad_label.ensures c.in_default-first_bad_label.is
+    (stop7 s c.requires.0 _ c.first_bad_order.ensures _ c.in-Some-first_bad_order.is))
 
-pub first_fall-fall-requires : goal.first_fall-fall-requires
-first_fall-fall-requires c =
-    let a = c.args in
-    clean7 a.size a.values.now a.codes.now a.order.now a.cuts.now a.counts.now c.requires.0 _ c.first_bad_order-entry.ensures c.if-entry-order.false
+pub first_fall-requires : goal.first_fall-requires
+first_fall-requires c = listed (sheet_in c.args.sheet.now) c.requires.0 _ c.first_bad_order.ensures c.in_default-first_bad_order.is
 
-pub returns-then-fall-order : goal.returns-then-fall-order
-returns-then-fall-order c =
-    let a = c.args in
-    go5 a.size a.values.now a.codes.now a.order.now a.cuts.now a.counts.now c.requires.0 _ c.first_bad_value-value.ensures c.if-value-values.false
-    (go6 a.size a.values.now a.codes.now a.order.now a.cuts.now a.counts.now c.requires.0 _ c.first_bad_label-row.ensures c.if-row-codes.false
-    (go7 a.size a.values.now a.codes.now a.order.now a.cuts.now a.counts.now c.requires.0 _ c.first_bad_order-entry.ensures c.if-entry-order.false
-    (stop8 a.size a.values.now a.codes.now a.order.now a.cuts.now a.counts.now c.requires.0 _ c.first_fall-fall.ensures c.if-fall-order.true)))
+pub returns-in-Some-first_fall : goal.returns-in-Some-first_fall
+returns-in-Some-first_fall c =
+    let s : Sheet = sheet_in c.args.sheet.now in
+    ap (λ (r : Refusal). Err r) c.at-in-Some-first_fall.ensures
+    ∙ go5 s c.requires.0 _ c.first_bad_value.ensures c.in_default.is
+    (go6 s c.requires.0 _ c.first_bad_label.ensures c.in_default-first_bad_label.is
+    (go7 s c.requires.0 _ c.first_bad_order.ensures c.in_default-first_bad_order.is
+    (stop8 s c.requires.0 _ c.first_fall.ensures _ c.in-Some-first_fall.is)))
 
-pub first_bad_cuts-column-requires : goal.first_bad_cuts-column-requires
-first_bad_cuts-column-requires c =
-    let a = c.args in
-    record {
-      listed =
-          clean7 a.size a.values.now a.codes.now a.order.now a.cuts.now a.counts.now c.requires.0 _ c.first_bad_order-entry.ensures
-          c.if-entry-order.false;
-      cuts_all = c.requires.0.lengths.cuts_all;
-      counts_all = c.requires.0.lengths.counts_all;
-    }
+pub first_bad_cuts-requires : goal.first_bad_cuts-requires
+first_bad_cuts-requires c = listed (sheet_in c.args.sheet.now) c.requires.0 _ c.first_bad_order.ensures c.in_default-first_bad_order.is
 
-pub returns-then-column-counts : goal.returns-then-column-counts
-returns-then-column-counts c =
-    let a = c.args in
-    go5 a.size a.values.now a.codes.now a.order.now a.cuts.now a.counts.now c.requires.0 _ c.first_bad_value-value.ensures c.if-value-values.false
-    (go6 a.size a.values.now a.codes.now a.order.now a.cuts.now a.counts.now c.requires.0 _ c.first_bad_label-row.ensures c.if-row-codes.false
-    (go7 a.size a.values.now a.codes.now a.order.now a.cuts.now a.counts.now c.requires.0 _ c.first_bad_order-entry.ensures c.if-entry-order.false
-    (go8 a.size a.values.now a.codes.now a.order.now a.cuts.now a.counts.now c.requires.0 _ c.first_fall-fall.ensures c.if-fall-order.false
-    (stop9 a.size a.values.now a.codes.now a.order.now a.cuts.now a.counts.now c.requires.0 _ c.first_bad_cuts-column.ensures
-    c.if-column-counts.true))))
+pub returns-in-Some-first_bad_cuts : goal.returns-in-Some-first_bad_cuts
+returns-in-Some-first_bad_cuts c =
+    let s : Sheet = sheet_in c.args.sheet.now in
+    ap (λ (r : Refusal). Err r) c.at-in-Some-first_bad_cuts.ensures
+    ∙ go5 s c.requires.0 _ c.first_bad_value.ensures c.in_default.is
+    (go6 s c.requires.0 _ c.first_bad_label.ensures c.in_default-first_bad_label.is
+    (go7 s c.requires.0 _ c.first_bad_order.ensures c.in_default-first_bad_order.is
+    (go8 s c.requires.0 _ c.first_fall.ensures c.in_default-first_fall.is
+    (stop9 s c.requires.0 _ c.first_bad_cuts.ensures _ c.in-Some-first_bad_cuts.is))))
 
 pub returns : goal.returns
 returns c =
-    let a = c.args in
-    go5 a.size a.values.now a.codes.now a.order.now a.cuts.now a.counts.now c.requires.0 _ c.first_bad_value-value.ensures c.if-value-values.false
-    (go6 a.size a.values.now a.codes.now a.order.now a.cuts.now a.counts.now c.requires.0 _ c.first_bad_label-row.ensures c.if-row-codes.false
-    (go7 a.size a.values.now a.codes.now a.order.now a.cuts.now a.counts.now c.requires.0 _ c.first_bad_order-entry.ensures c.if-entry-order.false
-    (go8 a.size a.values.now a.codes.now a.order.now a.cuts.now a.counts.now c.requires.0 _ c.first_fall-fall.ensures c.if-fall-order.false
-    (go9 a.size a.values.now a.codes.now a.order.now a.cuts.now a.counts.now c.requires.0 _ c.first_bad_cuts-column.ensures
-    c.if-column-counts.false))))
+    let s : Sheet = sheet_in c.args.sheet.now in
+    go5 s c.requires.0 _ c.first_bad_value.ensures c.in_default.is
+    (go6 s c.requires.0 _ c.first_bad_label.ensures c.in_default-first_bad_label.is
+    (go7 s c.requires.0 _ c.first_bad_order.ensures c.in_default-first_bad_order.is
+    (go8 s c.requires.0 _ c.first_fall.ensures c.in_default-first_fall.is
+    (go9 s c.requires.0 _ c.first_bad_cuts.ensures c.in_default-first_bad_cuts.is))))

@@ -1,53 +1,48 @@
-use mathlib.Core.Path.{◌≡◌}
-use mathlib.Core.List.{[]}
-use native.Mathlib.Omega.{arith}
-use lib.ListN.{length-set}
+use mathlib.Core.Path.{◌≡◌, subst}
 use Prim.Native.Nat.{ℕ, ◌+◌, ◌*◌}
-use lib.ListN.{get_or}
+use native.Mathlib.Omega.{arith}
+use lib.Dec.{T}
+use lib.ListN.{get_or, length-set}
 use Rattle.sheet.specs.Sheet.{Sheet, row_at}
-use Rattle.sheet.specs.Check.{sheet_of}
-use Rattle.sheet.proofs.Search.{clean_more, clean_stop, clean_all}
+use Rattle.sheet.specs.Check.{bad_order}
+use Rattle.sheet.specs.Lent.{sheet_in}
+use Rattle.sheet.proofs.Search.{Clean, clean_more, clean_found, clean_missed}
 use Rattle.sheet_check.proofs.Marks.{marks_more, bad_high, bad_met, good}
 use Rattle.sheet_check.proofs.order_check.first_bad_place.Goals as goal
+use Rattle.sheet_check.proofs.order_check.first_bad_place.Goals.{then-rows-row-via-then-rows-row, then-rows-row-via-else-rows-row+then-marks-row}
 
 -- an entry of the order list, as the definitions name it
 row_read : (s : Sheet) (c i row : ℕ) → row ≡ get_or s.order (c * s.rows + i) 0 → row ≡ row_at s c i
 unfolding row_at
 row_read s c i row e = e
 
-pub returns-then-size-row : goal.returns-then-size-row
-returns-then-size-row c =
-    let a = c.args in
-    let s : Sheet = sheet_of a.size [] [] a.order.now [] [] in
-    let inv = c.loop-place.invariant in (
-      clean_stop inv.2 (omega (arith, c.loop-place-test.true))
-          (bad_high s a.column _ _ _ inv.3 _ (row_read s a.column _ _ c.wide_entry-row.ensures.0) c.if-size-row.true),
-      inv.3.most,
-    )
-
-pub returns-then-marks-row : goal.returns-then-marks-row
-returns-then-marks-row c =
-    let a = c.args in
-    let s : Sheet = sheet_of a.size [] [] a.order.now [] [] in
-    let inv = c.loop-place.invariant in (
-      clean_stop inv.2 (omega (arith, c.loop-place-test.true))
-          (bad_met s a.column _ _ _ inv.3 _ (row_read s a.column _ _ c.wide_entry-row.ensures.0) c.if-marks-row.true),
-      inv.3.most,
-    )
+pub returns-then-rows-row-clause-place : goal.returns-then-rows-row-clause-place
+returns-then-rows-row-clause-place c =
+    let s : Sheet = sheet_in c.args.sheet.now in
+    let column : ℕ = c.args.column in
+    let i : ℕ = c.loop-place.place in
+    let e : c.from-row.result ≡ row_at s column i = row_read s column i _ c.from-row.ensures in
+    let bad : T (bad_order s column i) =
+    elim c.then-rows-row.branch [
+      | then-rows-row-via-then-rows-row w ↦ bad_high s column i _ _ c.loop-place.invariant.met _ e w.if-rows-row.true
+      | then-rows-row-via-else-rows-row+then-marks-row w ↦ bad_met s column i _ _ c.loop-place.invariant.met _ e w.if-marks-row.true
+    ] in
+    clean_found c.loop-place.invariant.clean c.loop-place-test.true bad
 
 pub loop-place-preserved : goal.loop-place-preserved
 loop-place-preserved c =
-    let a = c.args in
-    let s : Sheet = sheet_of a.size [] [] a.order.now [] [] in
+    let s : Sheet = sheet_in c.args.sheet.now in
+    let column : ℕ = c.args.column in
+    let i : ℕ = c.loop-place.place in
     let inv = c.loop-place.invariant in
-    let e : c.wide_entry-row.result ≡ row_at s a.column c.loop-place.place = row_read s a.column _ _ c.wide_entry-row.ensures.0 in (
-      omega (arith, c.loop-place-test.true),
-      simp length-set inv.1,
-      clean_more inv.2 (good s a.column _ _ _ inv.3 _ e c.if-size-row.false c.if-marks-row.false),
-      marks_more s a.column _ _ _ inv.3 _ e (omega (arith, c.if-size-row.false, inv.1, c.requires.2)),
-    )
+    let e : c.from-row.result ≡ row_at s column i = row_read s column i _ c.from-row.ensures in
+    record {
+      size = simp length-set inv.size;
+      clean = clean_more inv.clean (good s column i _ _ inv.met _ e c.if-rows-row.false c.if-marks-row.false);
+      met = marks_more s column i _ _ inv.met _ e (omega (arith, c.if-rows-row.false, inv.size, c.requires.room));
+    }
 
-pub returns : goal.returns
-returns c =
-    let inv = c.loop-place.invariant in
-    (clean_all inv.2 (omega (arith, inv.0, c.loop-place-test.false)), inv.3.most)
+pub returns-clause-place : goal.returns-clause-place
+returns-clause-place c =
+    let all : c.loop-place.place ≡ c.args.sheet.now.measured.size.rows = omega (arith, c.loop-place-test.false, c.loop-place.auto.place-end) in
+    clean_missed (subst (λ (n : ℕ). Clean (bad_order (sheet_in c.args.sheet.now) c.args.column) n) all c.loop-place.invariant.clean)

@@ -1,19 +1,19 @@
-use mathlib.Core.Path.{◌≡◌, refl, sym, ap, ◌∙◌}
-use Prim.Native.Nat.{ℕ, ◌+◌, ◌*◌, ◌≤◌}
+use mathlib.Core.Path.{◌≡◌, refl, sym, ap, ◌∙◌, subst}
+use Prim.Native.Nat.{ℕ, ◌+◌, ◌*◌, ◌-◌, ◌≤◌}
 use mathlib.Core.Bool.{false}
-use mathlib.Core.List.{[]}
 use native.Mathlib.Omega.{arith}
 use native.Mathlib.Nat.{add-zero}
 use borrow.Author.Tests.{not-false}
 use lib.ListN.{length, get_or}
 use lib.Dec.{T, eqb→eq}
 use lib.Ieee.{Float, nan, binary64, fits, eq, ne}
+use Rattle.sheet.specs.Laws.{Doubles}
 use Rattle.sheet.specs.Sheet.{Sheet, row_at, value_of, value_at, place_of, count_of}
-use Rattle.sheet.specs.Check.{sheet_of}
+use Rattle.sheet.specs.Lent.{sheet_in}
 use Rattle.sheet.proofs.Search.{truth}
 use Rattle.sheet_check.proofs.Seen.{equal_back, seen_first, seen_rise, seen_level, seen_all}
 use Rattle.sheet_check.proofs.pass_check.column_passes.Goals as goal
-use Rattle.sheet_check.proofs.pass_check.column_passes.Goals.{then-last-value+else-wide_entry-place, else-last-value+else-value-last}
+use Rattle.sheet_check.proofs.pass_check.column_passes.Goals.{then-last-value+else-from-place, else-last-value+else-value-last}
 
 -- ---- what was read, as the definitions name it
 
@@ -37,6 +37,10 @@ as_count : (s : Sheet) (c : ℕ) → get_or s.counts c 0 ≡ count_of s c
 unfolding count_of
 as_count s c = refl
 
+last_double : (s : Sheet) → Doubles s → (c i : ℕ) (v : Float) → v ≡ value_at s c (i - 1) → T (fits binary64 v)
+unfolding value_at value_of
+last_double s doubles c i v e = subst (λ x. T (fits binary64 x)) (sym e) (doubles (c * s.rows + row_at s c (i - 1)))
+
 equal : (x y : Float) → ne x y ≡ false → T (eq x y)
 unfolding ne
 equal x y e = truth (not-false (eq x y) e)
@@ -45,45 +49,48 @@ equal x y e = truth (not-false (eq x y) e)
 
 pub loop-place-init : goal.loop-place-init
 loop-place-init c =
-    let a = c.args in
-    let s : Sheet = sheet_of a.size a.values.now [] a.order.now a.cuts.now a.counts.now in
-    let e : c.wide_entry-first.result ≡ row_at s a.column 0 = row_first s a.column _ c.wide_entry-first.ensures.0 in (
-      c.requires.0.columned.sized.rows_some,
-      refl,
-      c.type_inv.values _,
-      seen_first (λ r. omega (arith, c.requires.2 r)) e (c.take_row.ensures (truth c.if-not-take_row.false)) c.requires.1
-          (value_here s a.column 0 c.wide_entry-first.result e),
-    )
+    let s : Sheet = sheet_in c.args.sheet.now in
+    let column : ℕ = c.args.column in
+    let e : c.from-first.result ≡ row_at s column 0 = row_first s column _ c.from-first.ensures in
+    record {
+      size = refl;
+      doubles = c.type_inv.values;
+      seen =
+          seen_first (λ r. omega (arith, c.requires.lower_marks r)) e (c.take_row.ensures (truth c.if-not-take_row.false)) c.requires.room
+          (value_here s column 0 c.from-first.result e);
+    }
 
 pub loop-place-preserved : goal.loop-place-preserved
 loop-place-preserved c =
-    let a = c.args in
-    let s : Sheet = sheet_of a.size a.values.now [] a.order.now a.cuts.now a.counts.now in
+    let s : Sheet = sheet_in c.args.sheet.now in
+    let column : ℕ = c.args.column in
     let i : ℕ = c.loop-place.place in
-    let m = c.loop-place.invariant.3 in
-    let e : c.wide_entry-row.result ≡ row_at s a.column i = row_here s a.column i _ c.wide_entry-row.ensures.0 in
+    let inv = c.loop-place.invariant in
+    let m = inv.seen in
+    let e : c.from-row.result ≡ row_at s column i = row_here s column i _ c.from-row.ensures in
     let t = c.take_row-in-loop-place.ensures (truth c.if-not-take_row-2.false) in
-    let value : Float = get_or a.values.now (a.column * a.size.rows + c.wide_entry-row.result) nan in
-    let double : T (fits binary64 value) = c.type_inv.values _ in
-    let q = value_here s a.column i c.wide_entry-row.result e in
-    let l : a.size.rows ≤ length c.loop-place.marks = omega (arith, c.requires.1, c.loop-place.invariant.1) in (
-      omega (arith, c.loop-place-test.true),
-      omega (arith, c.loop-place.invariant.1),
-      double,
-      elim c.if-last-value.branch [
-        | then-last-value+else-wide_entry-place w ↦ seen_rise m e t l q w.if-last-value.true
-            (sym (as_place s a.column c.loop-place.found) ∙ sym w.wide_entry.ensures.0 ∙ w.if-wide_entry-place.false) w.found-is
-        | else-last-value+else-value-last w ↦ seen_level m e t l q w.if-last-value.false
-            (equal_back value c.loop-place.last double c.loop-place.invariant.2 (equal value c.loop-place.last w.if-value-last.false)) w.found-is
-      ],
-    )
+    let value : Float = get_or s.values (column * s.rows + c.from-row.result) nan in
+    let double : T (fits binary64 value) = inv.doubles _ in
+    let before : T (fits binary64 c.loop-place.last) = last_double s inv.doubles column i c.loop-place.last m.at in
+    let q = value_here s column i c.from-row.result e in
+    let l : s.rows ≤ length c.loop-place.marks = omega (arith, c.requires.room, inv.size) in
+    record {
+      size = omega (arith, inv.size);
+      doubles = inv.doubles;
+      seen =
+          elim c.if-last-value.branch [
+            | then-last-value+else-from-place w ↦ seen_rise m e t l q w.if-last-value.true
+                (sym (as_place s column c.loop-place.found) ∙ sym w.from.ensures ∙ w.if-from-place.false) w.found-is
+            | else-last-value+else-value-last w ↦ seen_level m e t l q w.if-last-value.false
+                (equal_back value c.loop-place.last double before (equal value c.loop-place.last w.if-value-last.false)) w.found-is
+          ];
+    }
 
 pub returns : goal.returns
 returns c t =
-    let a = c.args in
-    let s : Sheet = sheet_of a.size a.values.now [] a.order.now a.cuts.now a.counts.now in
-    let m = c.loop-place.invariant.3 in (
-      seen_all m (omega (arith, c.loop-place.invariant.0, c.loop-place-test.false))
-          (eqb→eq c.loop-place.found c.wide_entry-2.result t ∙ c.wide_entry-2.ensures.0 ∙ as_count s a.column),
+    let s : Sheet = sheet_in c.args.sheet.now in
+    let m = c.loop-place.invariant.seen in (
+      seen_all m c.loop-place.invariant.doubles (omega (arith, c.requires.shaped.limited.rows_some, c.loop-place.auto.place-end, c.loop-place-test.false))
+          (eqb→eq c.loop-place.found c.from-2.result t ∙ c.from-2.ensures ∙ as_count s c.args.column),
       m.met.most,
     )

@@ -1,28 +1,33 @@
 -- `sheet_check::pass_check::ends_hold` meets its contract.
 use mathlib.Core.Path.{◌≡◌, sym, ap, ◌∙◌}
 use Prim.Native.Nat.{◌-◌}
-use mathlib.Core.List.{[]}
+use native.Mathlib.Omega.{arith}
 use Rattle.threshold.specs.Threshold.{within}
 use Rattle.sheet.specs.Sheet.{Sheet, value_at}
-use Rattle.sheet.specs.Check.{sheet_of}
+use Rattle.sheet.specs.Lent.{sheet_in}
 use Rattle.sheet.proofs.Search.{go, stop}
-use Rattle.sheet.proofs.Values.{as_value}
+use Rattle.sheet.proofs.Values.{value_ready, as_value}
 use Rattle.sheet_check.proofs.pass_check.ends_hold.Goals as goal
 
-pub returns-then-not-in_range : goal.returns-then-not-in_range
-returns-then-not-in_range c =
-    let a = c.args in
-    let s : Sheet = sheet_of a.size a.values.now [] a.order.now [] [] in
-    let first : c.in_range.result ≡ within (value_at s a.column 0) =
-    c.in_range.ensures ∙ ap (λ x. within x) (c.value_at.ensures ∙ as_value s a.column 0) in
-    sym (stop _ (sym first ∙ c.if-not-in_range.true))
+pub value_at-requires : goal.value_at-requires
+value_at-requires c = value_ready c.requires 0 c.requires.shaped.limited.rows_some
 
-pub returns : goal.returns
-returns c =
-    let a = c.args in
-    let s : Sheet = sheet_of a.size a.values.now [] a.order.now [] [] in
-    let first : c.in_range.result ≡ within (value_at s a.column 0) =
-    c.in_range.ensures ∙ ap (λ x. within x) (c.value_at.ensures ∙ as_value s a.column 0) in
+pub value_at-requires-then-in_range : goal.value_at-requires-then-in_range
+value_at-requires-then-in_range c =
+    value_ready c.requires (c.args.sheet.now.measured.size.rows - 1) (omega (arith, c.requires.shaped.limited.rows_some))
+
+pub returns-then-in_range : goal.returns-then-in_range
+returns-then-in_range c =
+    let s : Sheet = sheet_in c.args.sheet.now in
+    let column = c.args.column in
+    let first : c.in_range.result ≡ within (value_at s column 0) = c.in_range.ensures ∙ ap (λ x. within x) (c.value_at.ensures ∙ as_value s column 0) in
     sym
-    (go (sym first ∙ c.if-not-in_range.false)
-    (sym (c.in_range-2.ensures ∙ ap (λ x. within x) (c.value_at-2.ensures ∙ as_value s a.column (a.size.rows - 1)))))
+    (go (sym first ∙ c.if-in_range.true)
+    (sym (c.in_range-then-in_range.ensures ∙ ap (λ x. within x) (c.value_at-then-in_range.ensures ∙ as_value s column (s.rows - 1)))))
+
+pub returns-else-in_range : goal.returns-else-in_range
+returns-else-in_range c =
+    let s : Sheet = sheet_in c.args.sheet.now in
+    let column = c.args.column in
+    let first : c.in_range.result ≡ within (value_at s column 0) = c.in_range.ensures ∙ ap (λ x. within x) (c.value_at.ensures ∙ as_value s column 0) in
+    c.if-in_range.false ∙ sym (stop _ (sym first ∙ c.if-in_range.false))
