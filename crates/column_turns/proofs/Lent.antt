@@ -9,7 +9,6 @@ use borrow.Rule.Slice.PartMut.{put_mid, same_len_mid}
 use Rattle.basics.proofs.Choice.{by_test}
 use Rattle.sheet.specs.Limits.{words_per_row}
 use Rattle.interval_pruner.specs.declared.Bound.{Bound}
-use Rattle.interval_pruner.specs.Pruner.{recorded_after}
 use Rattle.interval_queue.specs.declared.Queue.{Queue}
 use Rattle.interval_queue.specs.Ring.{stored, pushed_words, full}
 use Rattle.column_turns.specs.Lent.{ring_at, marks_at, spare_at, table_of, ring_of, marks_of, rest_of, Enough, RestKept}
@@ -133,10 +132,6 @@ ring_became rows xs ys zs enough e l =
     (ring_put rows xs ys enough (ap length e ∙ l))
 
 -- ---- lengths that stay
-
-pub recorded_length : (table : List ℕ) (cut left right : ℕ) → length (recorded_after table cut left right) ≡ length table
-unfolding recorded_after
-recorded_length table cut left right = simp length-set
 
 pub pushed_length : (words : List ℕ) (q : Queue) (i : Bound) → length (pushed_words words q i) ≡ length words
 unfolding pushed_words stored

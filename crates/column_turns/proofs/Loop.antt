@@ -12,7 +12,7 @@ use Rattle.sheet.specs.Sheet.{Sheet, places_of}
 use Rattle.cuts.specs.declared.Run.{Run}
 use Rattle.cuts.specs.Lookups.{Ascending}
 use Rattle.cuts.specs.Feasible.{feasible_of}
-use Rattle.interval_pruner.specs.declared.Tried.TheVariants.{Nothing}
+use Rattle.std.specs.Prelude.{None}
 use Rattle.interval_pruner.specs.Column.{Column}
 use Rattle.interval_queue.specs.declared.Queue.{Queue}
 use Rattle.interval_queue.specs.Ring.{contents}
@@ -35,7 +35,7 @@ use Rattle.column_turns.proofs.Turns.{feasible_cuts}
 -- ---- the first interval
 
 pub first_pushing : (rows first last : ℕ) (xs : List ℕ) → Enough rows xs → first ≤ last → last < most_rows
-    → Pushing rows xs (record { head = 0; waiting = 0 }) (record { first = first; last = last; left = Nothing; right = Nothing })
+    → Pushing rows xs (record { head = 0; waiting = 0 }) (record { first = first; last = last; left = None; right = None })
 first_pushing rows first last xs enough h l =
     record {
       enough = enough;

@@ -5,12 +5,11 @@ use native.Mathlib.Omega.{arith}
 use mathlib.Core.List.{List}
 use lib.ListN.{length, get_or, take, drop, length-drop}
 use lib.Seq.{length-take-le, get_or-take, get_or-drop, ext_get_or}
-use lib.Ieee.{Float}
 use Rattle.basics.specs.Lists.{table}
 use Rattle.basics.proofs.Lists.{get_d_table, length_table}
-use Rattle.sheet.specs.declared.Size.{Size}
+use Rattle.sheet.specs.declared.lent.LentSheet.{LentSheet}
+use Rattle.sheet.specs.Lent.{sheet_in}
 use Rattle.sheet.specs.Sheet.{Sheet, count_of, place_of, places_of}
-use Rattle.sheet.specs.Check.{sheet_of}
 use Rattle.cuts.specs.Lookups.{place, Ascending}
 use Rattle.column_turns.specs.Ready.{PlacedIn}
 use Rattle.column_turns.specs.Promise.{Whole}
@@ -23,13 +22,14 @@ window xs base n h =
     ext_get_or 0 (take n (drop base xs)) (table (λ k. get_or xs (base + k) 0) n) (l ∙ sym (length_table (λ k. get_or xs (base + k) 0) n))
     (λ i k. get_or-take n (drop base xs) i 0 (omega arith) ∙ get_or-drop base xs i 0 ∙ sym (get_d_table (λ k. get_or xs (base + k) 0) n i 0 (omega arith)))
 
-pub places_part : (size : Size) (values : List Float) (codes order cuts counts : List ℕ) (column end : ℕ) → PlacedIn size cuts counts column
-    → end ≡ column * size.rows + get_or counts column 0
-    → take (end - column * size.rows) (drop (column * size.rows) cuts) ≡ places_of (sheet_of size values codes order cuts counts) column
+pub places_part : (l : LentSheet) (column end : ℕ) → PlacedIn l column
+    → end ≡ column * l.measured.size.rows + get_or l.counts.now column 0
+    → take (end - column * l.measured.size.rows) (drop (column * l.measured.size.rows) l.cuts.now) ≡ places_of (sheet_in l) column
 unfolding places_of place_of count_of
-places_part size values codes order cuts counts column end h e =
-    let n : end - column * size.rows ≡ get_or counts column 0 = omega arith in
-    ap (λ (k : ℕ). take k (drop (column * size.rows) cuts)) n ∙ window cuts (column * size.rows) (get_or counts column 0) h.listed
+places_part l column end h e =
+    let base : ℕ = column * l.measured.size.rows in
+    let n : end - base ≡ get_or l.counts.now column 0 = omega arith in
+    ap (λ (k : ℕ). take k (drop base l.cuts.now)) n ∙ window l.cuts.now base (get_or l.counts.now column 0) h.listed
 
 -- ---- the places of an accepted sheet
 
@@ -50,10 +50,9 @@ module _ (s : Sheet) (whole : Whole s) (c : ℕ) (here : c < s.columns) where
   pub places_low : (k : ℕ) → k < count_of s c → 1 ≤ place (places_of s c) k
   places_low k h = omega (arith, place_is k h, (whole.sound.column c here).cuts.place_low k h)
 
-pub placed_in : (size : Size) (values : List Float) (codes order cuts counts : List ℕ) (column : ℕ)
-    → Whole (sheet_of size values codes order cuts counts) → column < size.columns → PlacedIn size cuts counts column
+pub placed_in : (l : LentSheet) (column : ℕ) → Whole (sheet_in l) → column < l.measured.size.columns → PlacedIn l column
 unfolding count_of
-placed_in size values codes order cuts counts column whole here =
+placed_in l column whole here =
     record {
       rows_most = whole.sound.limited.rows_most;
       columns_most = omega (arith, whole.sound.limited.columns_most);
@@ -62,7 +61,7 @@ placed_in size values codes order cuts counts column whole here =
           omega (
             arith,
             whole.lengths.cuts_all,
-            column_in size.rows size.columns column here,
+            column_in l.measured.size.rows l.measured.size.columns column here,
             (whole.sound.column column here).cuts.count_most,
           );
     }

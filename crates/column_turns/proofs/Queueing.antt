@@ -10,8 +10,7 @@ use lib.ListN.{length, length-append}
 use lib.Dec.{leb, eqb, le→leb}
 use Rattle.basics.proofs.Choice.{by_test, pick_true, pick_false, nleb, eqb_no, eqb_yes}
 use Rattle.sheet.specs.Limits.{most_rows}
-use Rattle.interval_pruner.specs.declared.Tried.{Tried}
-use Rattle.interval_pruner.specs.declared.Tried.TheVariants.{Nothing, Cut}
+use Rattle.std.specs.Prelude.{Option, Some, None}
 use Rattle.interval_pruner.specs.declared.Bound.{Bound}
 use Rattle.interval_pruner.specs.declared.Parts.{Parts}
 use Rattle.interval_pruner.specs.declared.Zeros.{Zeros}
@@ -87,9 +86,9 @@ both_queued rows xs ys zs q r u l m a b =
 
 -- ---- the two parts
 
-small_cut : (n : ℕ) (t : Tried) → n ≤ most_rows → IfCut (λ k. k < n) t → SmallCut t
-small_cut n Nothing h g = tt
-small_cut n (Cut k) h g = omega arith
+small_cut : (n : ℕ) (t : Option ℕ) → n ≤ most_rows → IfCut (λ k. k < n) t → SmallCut t
+small_cut n None h g = tt
+small_cut n (Some k) h g = omega arith
 
 part_few : (i : Bound) → length (part i) ≤ 1
 unfolding part

@@ -3,10 +3,9 @@
 use mathlib.Core.Path.{◌≡◌, refl, sym, ap, ◌∙◌, subst}
 use Prim.Native.Nat.{ℕ, suc, ◌+◌, ◌-◌, ◌*◌, ◌<◌, min}
 use native.Mathlib.Omega.{arith}
-use mathlib.Core.Option.{Option, some}
+use mathlib.Core.Option.{Option as Maybe, some}
 use mathlib.Core.List.{List, [], ◌∷◌, ◌++◌}
-use lib.ListN.{length, get_or, set, length-set}
-use lib.Seq.{get_or-set_same, get_or-set_other}
+use lib.ListN.{length}
 use lib.Dec.{leb, ltb, eqb, ltb→lt, nltb→le, eqb→eq}
 use Rattle.basics.specs.Choice.{pick}
 use Rattle.basics.specs.Lists.{All}
@@ -20,14 +19,15 @@ use Rattle.interval_pruner.specs.declared.Zeros.{Zeros}
 use Rattle.interval_pruner.specs.declared.Parts.{Parts}
 use Rattle.interval_pruner.specs.Column.{Column, left_error, right_error, error_of, recorded}
 use Rattle.interval_pruner.specs.Pruner.{zeros_after, recorded_after}
+use Rattle.interval_pruner.proofs.Results.{recorded_here, recorded_other}
 use Rattle.interval_queue.specs.declared.Queue.{Queue}
 use Rattle.interval_queue.specs.Ring.{contents}
 use Rattle.interval_queue.specs.Laws.{Sane}
 use Rattle.column_search.specs.Search.{State, limit, zeros_of, middle, part, upper_part, lower_part, queued, try_cut, tries_of}
 use Rattle.column_search.specs.Laws.{Agree}
 use Rattle.column_search.proofs.Same.{same_parts}
-use Rattle.column_turns.specs.declared.interval_steps.Held.{Held}
-use Rattle.column_turns.specs.declared.interval_steps.Held.TheVariants.{Rule}
+use Rattle.std.specs.Prelude.{Option, Some}
+use Rattle.tree.specs.declared.Tree.{Tree}
 use Rattle.column_turns.specs.declared.interval_steps.Standing.{Standing}
 use Rattle.column_turns.specs.declared.Course.{Course}
 use Rattle.column_turns.specs.declared.Attempt.{Attempt}
@@ -41,50 +41,31 @@ use Rattle.column_turns.proofs.Lent.{table_length}
 
 -- ---- the table
 
--- the errors last recorded
-recorded_there : (t : List ℕ) (k a b : ℕ) → 2 * k + 1 < length t → recorded (recorded_after t k a b) k ≡ (a, b)
-unfolding recorded recorded_after
-recorded_there t k a b h =
-    let l : get_or (set (set t (2 * k) a) (2 * k + 1) b) (2 * k) 0 ≡ a =
-    get_or-set_other (set t (2 * k) a) (2 * k + 1) (2 * k) b 0 (λ e. absurd (omega arith)) ∙ get_or-set_same t (2 * k) a 0 (omega arith) in
-    let r : get_or (set (set t (2 * k) a) (2 * k + 1) b) (2 * k + 1) 0 ≡ b = get_or-set_same (set t (2 * k) a) (2 * k + 1) b 0 (simp length-set (omega arith)) in
-    λ i. (l i, r i)
-
--- those of other cuts stay
-recorded_else : (t : List ℕ) (k j a b : ℕ) → (j ≡ k → ⊥) → recorded (recorded_after t k a b) j ≡ recorded t j
-unfolding recorded recorded_after
-recorded_else t k j a b n =
-    let l : get_or (set (set t (2 * k) a) (2 * k + 1) b) (2 * j) 0 ≡ get_or t (2 * j) 0 =
-    get_or-set_other (set t (2 * k) a) (2 * k + 1) (2 * j) b 0 (λ e. absurd (omega arith)) ∙ get_or-set_other t (2 * k) (2 * j) a 0 (λ e. n (omega arith)) in
-    let r : get_or (set (set t (2 * k) a) (2 * k + 1) b) (2 * j + 1) 0 ≡ get_or t (2 * j + 1) 0 =
-    get_or-set_other (set t (2 * k) a) (2 * k + 1) (2 * j + 1) b 0 (λ e. n (omega arith)) ∙ get_or-set_other t (2 * k) (2 * j + 1) a 0 (λ e. absurd (omega arith)) in
-    λ i. (l i, r i)
-
 agree_after : (c : Column) (t : List ℕ) (k : ℕ) → 2 * k + 1 < length t → (j : ℕ) → Agree c (recorded t) j
     → Agree c (recorded (recorded_after t k (c.errors k).0 (c.errors k).1)) j
 agree_after c t k h j g =
     decide (eqb j k)
     (λ y. let e : j ≡ k = eqb→eq j k y in
-    ap (λ (n : ℕ). c.errors n) e ∙ sym (recorded_there t k (c.errors k).0 (c.errors k).1 h)
+    ap (λ (n : ℕ). c.errors n) e ∙ sym (recorded_here t k (c.errors k).0 (c.errors k).1 h)
     ∙ ap (recorded (recorded_after t k (c.errors k).0 (c.errors k).1)) (sym e))
-    (λ y. g ∙ sym (recorded_else t k j (c.errors k).0 (c.errors k).1 (neqb j k y)))
+    (λ y. g ∙ sym (recorded_other t k (c.errors k).0 (c.errors k).1 j (neqb j k y)))
 
 -- ---- the tree held
 
-held_next : (s : Sheet) (support c m e error : ℕ) (best : Option ℕ) (held : Held) → e ≡ (errors_at s support c m).0 + (errors_at s support c m).1
-    → pick (ltb e error) (Rule (tried_tree s support c m)) (held_after s support c best error held)
+held_next : (s : Sheet) (support c m e error : ℕ) (best : Maybe ℕ) (held : Option Tree) → e ≡ (errors_at s support c m).0 + (errors_at s support c m).1
+    → pick (ltb e error) (Some (tried_tree s support c m)) (held_after s support c best error held)
     ≡ held_after s support c (pick (ltb e error) (some m) best) (min e error) held
 unfolding pick held_after tried_tree
 held_next s support c m e error best held same =
     decide (ltb e error)
     (λ y. let lower : e ≡ min e error = omega (arith, ltb→lt e error y) in
-    pick_true (ltb e error) (Rule (tried_tree s support c m)) (held_after s support c best error held) y
-    ∙ ap (λ (n : ℕ). Rule (tree_at s support c m n)) (sym same ∙ lower)
-    ∙ sym (ap (λ (o : Option ℕ). held_after s support c o (min e error) held) (pick_true (ltb e error) (some m) best y)))
+    pick_true (ltb e error) (Some (tried_tree s support c m)) (held_after s support c best error held) y
+    ∙ ap (λ (n : ℕ). Some (tree_at s support c m n)) (sym same ∙ lower)
+    ∙ sym (ap (λ (o : Maybe ℕ). held_after s support c o (min e error) held) (pick_true (ltb e error) (some m) best y)))
     (λ y. let stays : error ≡ min e error = omega (arith, nltb→le e error y) in
-    pick_false (ltb e error) (Rule (tried_tree s support c m)) (held_after s support c best error held) y
+    pick_false (ltb e error) (Some (tried_tree s support c m)) (held_after s support c best error held) y
     ∙ ap (λ (n : ℕ). held_after s support c best n held) stays
-    ∙ sym (ap (λ (o : Option ℕ). held_after s support c o (min e error) held) (pick_false (ltb e error) (some m) best y)))
+    ∙ sym (ap (λ (o : Maybe ℕ). held_after s support c o (min e error) held) (pick_false (ltb e error) (some m) best y)))
 
 -- ---- step 5
 
@@ -142,7 +123,7 @@ module _ (s : Sheet) (t : Terms) (c : ℕ) (p : Standing) (xs ys zs : List ℕ) 
       ∙ ap (λ (e : ℕ). record {
         error = min e state.error;
         tried = p.tried + tries_of state + 1;
-        held = pick (ltb e state.error) (Rule (tried_tree s t.support c m)) (held_after s t.support c state.best state.error p.held);
+        held = pick (ltb e state.error) (Some (tried_tree s t.support c m)) (held_after s t.support c state.best state.error p.held);
       }) tree_error
       ∙ (λ k. record { error = min (error_of col m) state.error; tried = n k; held = h k })
 
@@ -169,7 +150,7 @@ module _ (s : Sheet) (t : Terms) (c : ℕ) (p : Standing) (xs ys zs : List ℕ) 
       let same : table_of s.rows zs ≡ after = table_is ∙ attempted.lent.table_is in
       let fits : 2 * m + 1 < length table = omega (arith, table_length s.rows xs enough) in
       subst (λ (l : List ℕ). All (Agree col (recorded l)) (m ∷ state.tried)) (sym same) (
-        sym (recorded_there table m (errors_at s t.support c m).0 (errors_at s t.support c m).1 fits),
+        sym (recorded_here table m (errors_at s t.support c m).0 (errors_at s t.support c m).1 fits),
         all_map (Agree col (recorded table)) (Agree col (recorded after)) (λ j g. agree_after col table m fits j g) state.tried matches.agrees,
       )
 

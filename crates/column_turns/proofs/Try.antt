@@ -1,6 +1,6 @@
 -- A try: the marks say which rows go left, so the scan by the marks is the scan of the cut, and its two errors together are no more than the rows.
 -- Assumes nothing.
-use mathlib.Core.Path.{◌≡◌, refl, sym, ap, ◌∙◌, subst}
+use mathlib.Core.Path.{◌≡◌, refl, ap, ◌∙◌, subst}
 use Prim.Native.Nat.{ℕ, zero, suc, ◌+◌, ◌-◌, ◌*◌, ◌≤◌, ◌<◌}
 use native.Mathlib.Omega.{arith}
 use mathlib.Core.Bool.{Bool, true, false, not}
@@ -11,10 +11,11 @@ use lib.Ieee.{Float, nan}
 use Rattle.basics.specs.Choice.{pick}
 use Rattle.basics.proofs.Choice.{by_test}
 use Rattle.basics.proofs.Lists.{tally_le, length_table}
-use Rattle.threshold.specs.Threshold.{threshold_of, goes_left}
+use Rattle.threshold.specs.Threshold.{threshold_of}
 use Rattle.sheet.specs.declared.Size.{Size}
 use Rattle.sheet.specs.Sheet.{Sheet, value_of, label_of, row_at, value_at, count_of, place_of, every_row}
-use Rattle.sheet.specs.Check.{sheet_of}
+use Rattle.sheet.specs.declared.lent.LentSheet.{LentSheet}
+use Rattle.sheet.specs.Lent.{sheet_in}
 use Rattle.sheet.specs.Sound.{Sound}
 use Rattle.sheet.specs.Rows.{sent_left}
 use Rattle.sheet.proofs.Index.{column_in}
@@ -44,29 +45,31 @@ unfolding place_before
 before_first cuts base zero e = refl
 before_first cuts base (suc k) e = absurd (omega arith)
 
-pub before_placed : (size : Size) (values : List Float) (order cuts : List ℕ) (column cut : ℕ) → TryingCut size values order cuts column cut
-    → place_before cuts (column * size.rows) cut < size.rows
+pub before_placed : (l : LentSheet) (column cut : ℕ) → TryingCut l column cut
+    → place_before l.cuts.now (column * l.measured.size.rows) cut < l.measured.size.rows
 unfolding place_before
-before_placed size values order cuts column zero h = omega (arith, h.rows_some)
-before_placed size values order cuts column (suc k) h = h.placed k (omega arith)
+before_placed l column zero h = omega (arith, h.rows_some)
+before_placed l column (suc k) h = h.placed k (omega arith)
 
 -- ---- the threshold
 
 -- the value at a sorted place, in the lists
-abbrev pub sorted : List Float → List ℕ → ℕ → ℕ → Float
-sorted values order base i = get_or values (base + get_or order (base + i) 0) nan
+abbrev pub sorted : LentSheet → ℕ → ℕ → Float
+sorted l column i =
+    get_or l.measured.values.now (column * l.measured.size.rows + get_or l.order.now (column * l.measured.size.rows + i) 0) nan
 
-pub threshold_is : (size : Size) (values : List Float) (codes order cuts counts : List ℕ) (column cut : ℕ)
-    → threshold_of (sorted values order (column * size.rows) (place_before cuts (column * size.rows) cut))
-    (sorted values order (column * size.rows) (get_or cuts (column * size.rows + cut) 0))
-    ≡ cut_threshold (sheet_of size values codes order cuts counts) column cut
+pub threshold_is : (l : LentSheet) (column cut : ℕ)
+    → threshold_of (sorted l column (place_before l.cuts.now (column * l.measured.size.rows) cut))
+    (sorted l column (get_or l.cuts.now (column * l.measured.size.rows + cut) 0))
+    ≡ cut_threshold (sheet_in l) column cut
 unfolding place_before preceding_place cut_threshold value_at value_of row_at place_of
-threshold_is size values codes order cuts counts column zero = refl
-threshold_is size values codes order cuts counts column (suc k) = refl
+threshold_is l column zero = refl
+threshold_is l column (suc k) = refl
 
-pub read_place : (size : Size) (values : List Float) (order cuts : List ℕ) (column cut i : ℕ) → TryingCut size values order cuts column cut → i < size.rows
-    → (column * size.rows + i < length order) × (column * size.rows + get_or order (column * size.rows + i) 0 < length values)
-read_place size values order cuts column cut i h k = (omega (arith, h.ordered), omega (arith, h.valued, h.in_rows i k))
+pub read_place : (l : LentSheet) (column cut i : ℕ) → TryingCut l column cut → i < l.measured.size.rows
+    → (column * l.measured.size.rows + i < length l.order.now)
+    × (column * l.measured.size.rows + get_or l.order.now (column * l.measured.size.rows + i) 0 < length l.measured.values.now)
+read_place l column cut i h k = (omega (arith, h.ordered), omega (arith, h.valued, h.in_rows i k))
 
 -- a mark is 0 where the test passes
 mark_zero : (b : Bool) → eqb (pick b 0 1) 0 ≡ b
@@ -107,19 +110,21 @@ module _ (s : Sheet) (whole : Whole s) (c k : ℕ) (here : c < s.columns) (cut_i
 
 -- ---- what a try asks of its parts
 
-module _ (size : Size) (values : List Float) (codes order cuts : List ℕ) (column cut : ℕ) (scratch : List ℕ)
-    (trying : Trying size values codes order cuts column cut scratch) where
+module _ (l : LentSheet) (column cut : ℕ) (scratch : List ℕ) (trying : Trying (sheet_in l) column cut scratch) where
   abbrev sheet : Sheet
-  sheet = sheet_of size values codes order cuts trying.counts
+  sheet = sheet_in l
+
+  abbrev size : Size
+  size = l.measured.size
 
   abbrev entries : column * size.rows + size.rows ≤ size.columns * size.rows
   entries = column_in size.rows size.columns column trying.here
 
-  pub tried_listed : column * size.rows + cut < length cuts
+  pub tried_listed : column * size.rows + cut < length l.cuts.now
   tried_listed =
       omega (arith, entries, trying.whole.lengths.cuts_all, (trying.whole.sound.column column trying.here).cuts.count_most, trying.cut_in)
 
-  pub tried_cutting : TryingCut size values order cuts column cut
+  pub tried_cutting : TryingCut l column cut
   unfolding row_at place_of
   tried_cutting =
       record {
@@ -133,9 +138,9 @@ module _ (size : Size) (values : List Float) (codes order cuts : List ℕ) (colu
         in_rows = λ i h. (trying.whole.sound.column column trying.here).in_rows i h;
       }
 
-  pub tried_marking : MarkingCut size order cuts column cut scratch
+  pub tried_marking : MarkingCut l column cut scratch
   tried_marking =
-      let k : TryingCut size values order cuts column cut = tried_cutting in
+      let k : TryingCut l column cut = tried_cutting in
       record {
         marking =
             record {
@@ -149,7 +154,7 @@ module _ (size : Size) (values : List Float) (codes order cuts : List ℕ) (colu
         enough = trying.enough;
       }
 
-  pub tried_scannable : (marks : List ℕ) → length marks ≡ size.rows → MarkedTo size order column (get_or cuts (column * size.rows + cut) 0) marks size.rows
+  pub tried_scannable : (marks : List ℕ) → length marks ≡ size.rows → MarkedTo size l.order.now column (get_or l.cuts.now (column * size.rows + cut) 0) marks size.rows
       → Scannable (scan_of sheet) marks
   unfolding place_of
   tried_scannable marks e marked =
@@ -162,19 +167,14 @@ module _ (size : Size) (values : List Float) (codes order cuts : List ℕ) (colu
         numbered = λ r h. marks_number sheet trying.whole column cut trying.here trying.cut_in size marks refl marked r h;
       })
 
-  -- What the scan of the marks comes to. How many cuts are listed does not matter to it.
-  pub tried_sides : (counts : List ℕ) (support : ℕ) (marks : List ℕ)
-      → MarkedTo size order column (get_or cuts (column * size.rows + cut) 0) marks size.rows
-      → sides_of (scan_of sheet) support (go_left marks) ≡ sides_at (sheet_of size values codes order cuts counts) support column cut
-  unfolding sides_at place_of row_at sent_left value_of
-  tried_sides counts support marks marked =
-      let s : Sheet = sheet_of size values codes order cuts counts in
-      let e : cut_threshold sheet column cut ≡ cut_threshold s column cut =
-      sym (threshold_is size values codes order cuts trying.counts column cut) ∙ threshold_is size values codes order cuts counts column cut in
-      same_sides s (go_left marks) support
-      ∙ sides_alike s (go_left marks) (sent_left s (cut_question s column cut)) (λ d l i h. (trying.whole.sound.column d l).in_rows i h)
-      (λ r h. marks_tell sheet trying.whole column cut trying.here trying.cut_in size marks refl marked r h
-      ∙ ap (goes_left (value_of s column r)) e)
+  -- what the scan of the marks comes to
+  pub tried_sides : (support : ℕ) (marks : List ℕ) → MarkedTo size l.order.now column (get_or l.cuts.now (column * size.rows + cut) 0) marks size.rows
+      → sides_of (scan_of sheet) support (go_left marks) ≡ sides_at sheet support column cut
+  unfolding sides_at place_of row_at
+  tried_sides support marks marked =
+      same_sides sheet (go_left marks) support
+      ∙ sides_alike sheet (go_left marks) (sent_left sheet (cut_question sheet column cut)) (λ d l i h. (trying.whole.sound.column d l).in_rows i h)
+      (λ r h. marks_tell sheet trying.whole column cut trying.here trying.cut_in size marks refl marked r h)
       support
 
   pub tried_few : (support : ℕ) → side_error (sides_at sheet support column cut).left + side_error (sides_at sheet support column cut).right ≤ size.rows

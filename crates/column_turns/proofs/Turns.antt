@@ -7,24 +7,18 @@ use mathlib.Core.Bool.{Bool, true, false}
 use mathlib.Core.List.{List, [], ◌∷◌}
 use lib.ListN.{length}
 use lib.Dec.{leb, eqb}
-use lib.Ieee.{Float}
 use Rattle.basics.specs.Choice.{pick}
 use Rattle.basics.specs.Lists.{All, total, table}
 use Rattle.basics.proofs.Choice.{by_test}
 use Rattle.basics.proofs.Lists.{all_map, length_table}
-use Rattle.sheet.specs.declared.Size.{Size}
 use Rattle.sheet.specs.declared.Terms.{Terms}
 use Rattle.sheet.specs.Limits.{most_columns}
 use Rattle.sheet.specs.Sheet.{Sheet, count_of, places_of}
-use Rattle.sheet.specs.Check.{sheet_of}
 use Rattle.leaves_score.specs.Root.{errors_at}
 use Rattle.cuts.specs.Lookups.{Ascending}
 use Rattle.cuts.proofs.Feasible.{feasible_exactly}
-use Rattle.interval_pruner.specs.declared.Tried.{Tried}
-use Rattle.interval_pruner.specs.declared.Tried.TheVariants.{Nothing, Cut}
+use Rattle.std.specs.Prelude.{Option, Some, None}
 use Rattle.interval_pruner.specs.declared.Bound.{Bound}
-use Rattle.interval_pruner.specs.declared.Shrunk.{Shrunk}
-use Rattle.interval_pruner.specs.declared.Shrunk.TheVariants.{Dropped, To}
 use Rattle.interval_pruner.specs.declared.Zeros.{Zeros}
 use Rattle.interval_pruner.specs.Column as column
 use Rattle.interval_pruner.specs.Column.{Column, left_error, right_error, recorded}
@@ -33,6 +27,7 @@ use Rattle.interval_queue.specs.declared.Queue.{Queue}
 use Rattle.interval_queue.specs.declared.Popped.{Popped}
 use Rattle.interval_queue.specs.Ring.{contents, popped}
 use Rattle.interval_queue.specs.Laws.{Sane}
+use Rattle.interval_queue.proofs.Cases.{take_popped}
 use Rattle.interval_queue.proofs.Waiting.{pop_takes_first}
 use Rattle.column_search.specs.Search.{State, limit, zeros_of, middle, dropped, try_cut, after_shrink, turn_on, turn}
 use Rattle.column_search.specs.Laws.{Feasible, Agree, IfCut, IfTo, Inside}
@@ -64,10 +59,10 @@ middle_high a b h = omega arith
 
 -- ---- the zero marks name cuts of the list
 
-highest_in : (n k : ℕ) (t : Tried) → k < n → CutsNumbered n t → CutsNumbered n (highest_zero k t)
+highest_in : (n k : ℕ) (t : Option ℕ) → k < n → CutsNumbered n t → CutsNumbered n (highest_zero k t)
 unfolding highest_zero
-highest_in n k Nothing h g = h
-highest_in n k (Cut z) h g = omega arith
+highest_in n k None h g = h
+highest_in n k (Some z) h g = omega arith
 
 pub numbered_after : (n : ℕ) (z : Zeros) (k l r : ℕ) → k < n → CutsNumbered n z.left → CutsNumbered n (zeros_after z k l r).left
 unfolding zeros_after
@@ -99,40 +94,36 @@ module _ (s : Sheet) (t : Terms) (c : ℕ) (whole : Whole s) (here : c < s.colum
 
 -- ---- a try's needs
 
-module _ (size : Size) (values : List Float) (codes order cuts counts : List ℕ) (t : Terms) (c : ℕ) (xs : List ℕ) (course : Course) (i : Bound)
-    (attempting : Attempting (sheet_of size values codes order cuts counts) t c xs course i) where
-  abbrev sheet : Sheet
-  sheet = sheet_of size values codes order cuts counts
-
-  pub middle_in : middle i < count_of sheet c
+module _ (s : Sheet) (t : Terms) (c : ℕ) (xs : List ℕ) (course : Course) (i : Bound) (attempting : Attempting s t c xs course i) where
+  pub middle_in : middle i < count_of s c
   middle_in = omega (arith, middle_high i.first i.last attempting.full, attempting.till)
 
-  pub middle_row : middle i < size.rows
+  pub middle_row : middle i < s.rows
   middle_row = omega (arith, middle_in, (attempting.whole.sound.column c attempting.here).cuts.count_most)
 
-  pub to_try : Trying size values codes order cuts c (middle i) xs
-  to_try = record { counts = counts; whole = attempting.whole; here = attempting.here; cut_in = middle_in; enough = attempting.enough }
+  pub to_try : Trying s c (middle i) xs
+  to_try = record { whole = attempting.whole; here = attempting.here; cut_in = middle_in; enough = attempting.enough }
 
-  pub to_part : (ys : List ℕ) (tried : Attempt) → Attempted sheet t.support c (middle i) course.zeros xs ys tried
-      → PartsWaiting size.rows (places_of sheet c) tried.zeros i (middle i) course.queue ys
+  pub to_part : (ys : List ℕ) (tried : Attempt) → Attempted s t.support c (middle i) course.zeros xs ys tried
+      → PartsWaiting s.rows (places_of s c) tried.zeros i (middle i) course.queue ys
   to_part ys tried attempted =
-      let n : length (places_of sheet c) ≡ count_of sheet c = places_count sheet attempting.whole c attempting.here in
-      let small : count_of sheet c < size.rows = (attempting.whole.sound.column c attempting.here).cuts.count_most in
+      let n : length (places_of s c) ≡ count_of s c = places_count s attempting.whole c attempting.here in
+      let small : count_of s c < s.rows = (attempting.whole.sound.column c attempting.here).cuts.count_most in
       record {
-        enough = kept_enough size.rows xs ys attempting.enough attempted.lent.kept;
+        enough = kept_enough s.rows xs ys attempting.enough attempted.lent.kept;
         listed = omega (arith, n, small, attempting.enough.few);
-        ascending = places_ascend sheet attempting.whole c attempting.here;
+        ascending = places_ascend s attempting.whole c attempting.here;
         full = attempting.full;
         till = omega (arith, n, attempting.till);
         from_first = middle_low i.first i.last attempting.full;
         to_last = middle_high i.first i.last attempting.full;
-        placed = places_low sheet attempting.whole c attempting.here (middle i) middle_in;
-        left = cut_map (λ k. k < count_of sheet c) (λ k. k < length (places_of sheet c)) (λ k h. omega (arith, n)) i.left attempting.left;
-        right = cut_map (λ k. k < count_of sheet c) (λ k. k < length (places_of sheet c)) (λ k h. omega (arith, n)) i.right attempting.right;
+        placed = places_low s attempting.whole c attempting.here (middle i) middle_in;
+        left = cut_map (λ k. k < count_of s c) (λ k. k < length (places_of s c)) (λ k h. omega (arith, n)) i.left attempting.left;
+        right = cut_map (λ k. k < count_of s c) (λ k. k < length (places_of s c)) (λ k h. omega (arith, n)) i.right attempting.right;
         zero =
-            subst (λ (z : Zeros). CutsNumbered (length (places_of sheet c)) z.left) (sym attempted.zeros_are)
-            (numbered_after (length (places_of sheet c)) course.zeros (middle i) (errors_at sheet t.support c (middle i)).0
-            (errors_at sheet t.support c (middle i)).1 (omega (arith, n, middle_in))
+            subst (λ (z : Zeros). CutsNumbered (length (places_of s c)) z.left) (sym attempted.zeros_are)
+            (numbered_after (length (places_of s c)) course.zeros (middle i) (errors_at s t.support c (middle i)).0
+            (errors_at s t.support c (middle i)).1 (omega (arith, n, middle_in))
             (subst (λ (l : ℕ). CutsNumbered l course.zeros.left) (sym n) attempting.zero));
         sane = subst (λ (w : List ℕ). Sane w course.queue) (sym attempted.lent.ring_is) attempting.sane;
         room = attempting.room;
@@ -146,10 +137,10 @@ turn_pruned : (col : Column) (bound : ℕ) (state : State) (i : Bound) (rest : L
 unfolding turn_on pruned_of after_shrink pick
 turn_pruned col bound state i rest = go (hopeless col (limit bound state.error) i)
   where
-    left : Shrunk
+    left : Option Bound
     left = shrunk_of col (zeros_of col state.tried) (limit bound state.error) i
 
-    go : (b : Bool) → pick b (dropped state rest) (after_shrink col bound state rest left) ≡ after_shrink col bound state rest (pick b Dropped left)
+    go : (b : Bool) → pick b (dropped state rest) (after_shrink col bound state rest left) ≡ after_shrink col bound state rest (pick b None left)
     go true = refl
     go false = refl
 
@@ -163,32 +154,32 @@ pruned_same : (col : Column) (table : List ℕ) (z : Zeros) (b : ℕ) (i : Bound
     → IfCut (Agree col (recorded table)) i.right → pruned_of (column.recorded_column col.places table col.gap col.small) z b i ≡ pruned_of col z b i
 unfolding pruned_of
 pruned_same col table z b i l r =
-    sym (λ k. pick (same_hope col (recorded table) b i l r k) Dropped (same_shrunk col (recorded table) z b i l r k))
+    sym (λ k. pick (same_hope col (recorded table) b i l r k) None (same_shrunk col (recorded table) z b i l r k))
 
 -- ---- what is left
 
 -- nothing is: the state stays
-pub after_none : (s : Sheet) (t : Terms) (c : ℕ) (p : Standing) (xs : List ℕ) (course : Course) (state : State) (left : Shrunk) → left ≡ Dropped
+pub after_none : (s : Sheet) (t : Terms) (c : ℕ) (p : Standing) (xs : List ℕ) (course : Course) (state : State) (left : Option Bound) → left ≡ None
     → Matches s t c p xs course state → Matches s t c p xs course (after_shrink (searched_column s t c) t.bound state state.queue left)
 unfolding after_shrink standing_after_run
 after_none s t c p xs course state left e matches =
-    subst (λ (z : Shrunk). Matches s t c p xs course (after_shrink (searched_column s t c) t.bound state state.queue z)) (sym e)
+    subst (λ (z : Option Bound). Matches s t c p xs course (after_shrink (searched_column s t c) t.bound state state.queue z)) (sym e)
     (record { standing = matches.standing; zeros = matches.zeros; queue = matches.queue; sane = matches.sane; agrees = matches.agrees })
 
 -- an interval is: it is tried
-pub after_some : (s : Sheet) (t : Terms) (c : ℕ) (p : Standing) (xs : List ℕ) (course : Course) (state : State) (left : Shrunk) (j : Bound) → left ≡ To j
+pub after_some : (s : Sheet) (t : Terms) (c : ℕ) (p : Standing) (xs : List ℕ) (course : Course) (state : State) (left : Option Bound) (j : Bound) → left ≡ Some j
     → Matches s t c p xs course (try_cut (searched_column s t c) t.bound state state.queue j)
     → Matches s t c p xs course (after_shrink (searched_column s t c) t.bound state state.queue left)
 unfolding after_shrink
 after_some s t c p xs course state left j e matches =
-    subst (λ (z : Shrunk). Matches s t c p xs course (after_shrink (searched_column s t c) t.bound state state.queue z)) (sym e) matches
+    subst (λ (z : Option Bound). Matches s t c p xs course (after_shrink (searched_column s t c) t.bound state state.queue z)) (sym e) matches
 
 -- the queue of the state itself is not looked at
-after_dropped : (col : Column) (bound : ℕ) (state : State) (rest : List Bound) (left : Shrunk)
+after_dropped : (col : Column) (bound : ℕ) (state : State) (rest : List Bound) (left : Option Bound)
     → after_shrink col bound (dropped state rest) rest left ≡ after_shrink col bound state rest left
 unfolding after_shrink try_cut
-after_dropped col bound state rest Dropped = refl
-after_dropped col bound state rest (To j) = refl
+after_dropped col bound state rest None = refl
+after_dropped col bound state rest (Some j) = refl
 
 -- ---- one interval
 
@@ -219,7 +210,7 @@ module _ (s : Sheet) (t : Terms) (c : ℕ) (xs : List ℕ) (course : Course) (be
   first_taken : (contents ring course.queue ≡ b ∷ rest) × Sane ring others
   first_taken =
       subst (λ (z : Popped). (contents ring course.queue ≡ z.bound ∷ contents ring z.queue) × Sane ring z.queue) (sym taken)
-      (pop_takes_first ring course.queue stands.matches.sane waits)
+      (let p = pop_takes_first ring course.queue stands.matches.sane waits in (p.1, p.2))
 
   queue_is : state.queue ≡ b ∷ rest
   queue_is = sym stands.matches.queue ∙ first_taken.0
@@ -246,7 +237,7 @@ module _ (s : Sheet) (t : Terms) (c : ℕ) (xs : List ℕ) (course : Course) (be
       (λ k. pruned_of (column.recorded_column (places_of s c) (table_of s.rows xs) t.gap (leb t.support 1)) (stands.matches.zeros k) (min (current k) t.bound) b)
       ∙ pruned_same col (table_of s.rows xs) (zeros_of col state.tried) (limit t.bound state.error) b recalled.0 recalled.1
 
-  turn_is : (left : Shrunk) → pruned_of col (zeros_of col state.tried) (limit t.bound state.error) b ≡ left
+  turn_is : (left : Option Bound) → pruned_of col (zeros_of col state.tried) (limit t.bound state.error) b ≡ left
       → turn col t.bound state ≡ after_shrink col t.bound state rest left
   turn_is left e = ap (turn_on col t.bound state) queue_is ∙ turn_pruned col t.bound state b rest ∙ ap (after_shrink col t.bound state rest) e
 
@@ -263,7 +254,7 @@ module _ (s : Sheet) (t : Terms) (c : ℕ) (xs : List ℕ) (course : Course) (be
       }
 
   -- whatever is left, the course after it stands
-  stands_next : (zs : List ℕ) (course2 : Course) (left : Shrunk)
+  stands_next : (zs : List ℕ) (course2 : Course) (left : Option Bound)
       → pruned_of col (zeros_of col state.tried) (limit t.bound state.error) b ≡ left
       → Matches s t c p zs course2 (after_shrink col t.bound (dropped state rest) rest left)
       → Stands s t c p zs course2 × (total weight (contents (ring_of s.rows zs) course2.queue) < total weight (contents ring course.queue))
@@ -288,7 +279,7 @@ module _ (s : Sheet) (t : Terms) (c : ℕ) (xs : List ℕ) (course : Course) (be
   seen_in k h = omega (arith, h.till, cuts_few, begun.some)
 
   attempting_next : p.tried ≤ most_columns * most_tries → (j : Bound)
-      → pruned_of col (zeros_of col state.tried) (limit t.bound state.error) b ≡ To j
+      → pruned_of col (zeros_of col state.tried) (limit t.bound state.error) b ≡ Some j
       → Attempting s t c xs (record { standing = course.standing; zeros = course.zeros; queue = others }) j
   unfolding standing_after_run
   attempting_next few j e =
@@ -340,34 +331,40 @@ module _ (s : Sheet) (t : Terms) (c : ℕ) (xs : List ℕ) (course : Course) (be
 -- ---- a turn
 
 -- what the code prunes, by the places that it reads
-module _ (s : Sheet) (t : Terms) (c : ℕ) (xs : List ℕ) (course : Course) (turning : Turning s t c xs course) (b : Bound) (others : Queue)
-    (taken : record { bound = b; queue = others } ≡ popped (ring_of s.rows xs) course.queue) (places : List ℕ) (places_are : places ≡ places_of s c)
-    (left : Shrunk) (pruned : PrunedBy s.rows t places course.zeros b course.standing.error xs left) where
+module _ (s : Sheet) (t : Terms) (c : ℕ) (xs : List ℕ) (course : Course) (first : Popped) (turning : Turning s t c xs course first)
+    (places : List ℕ) (places_are : places ≡ places_of s c)
+    (left : Option Bound) (pruned : PrunedBy s.rows t places course.zeros first.bound course.standing.error xs left) where
   begun : Begun s t c xs
   begun = turning.begun
 
-  left_is : (p : Standing) (stands : Stands s t c p xs course)
-      → pruned_of (searched_column s t c) (zeros_of (searched_column s t c) stands.state.tried) (limit t.bound stands.state.error) b ≡ left
-  left_is p stands =
-      sym (pruned_is s t c xs course begun turning.waits p stands b others taken)
-      ∙ sym (pruned (subst Ascending (sym places_are) (places_ascend s begun.whole c begun.here))
-      ∙ (λ k. pruned_of (column.recorded_column (places_are k) (table_of s.rows xs) t.gap (leb t.support 1)) course.zeros (min course.standing.error t.bound) b))
+  waits : 0 < course.queue.waiting
+  waits = (take_popped (ring_of s.rows xs) course.queue first turning.first_is).0
 
-  pub turn_attempts : (j : Bound) → left ≡ To j → Attempting s t c xs (record { standing = course.standing; zeros = course.zeros; queue = others }) j
+  popped_is : first ≡ popped (ring_of s.rows xs) course.queue
+  popped_is = (take_popped (ring_of s.rows xs) course.queue first turning.first_is).1
+
+  left_is : (p : Standing) (stands : Stands s t c p xs course)
+      → pruned_of (searched_column s t c) (zeros_of (searched_column s t c) stands.state.tried) (limit t.bound stands.state.error) first.bound ≡ left
+  left_is p stands =
+      sym (pruned_is s t c xs course begun waits p stands first.bound first.queue popped_is)
+      ∙ sym (pruned (subst Ascending (sym places_are) (places_ascend s begun.whole c begun.here))
+      ∙ (λ k. pruned_of (column.recorded_column (places_are k) (table_of s.rows xs) t.gap (leb t.support 1)) course.zeros (min course.standing.error t.bound) first.bound))
+
+  pub turn_attempts : (j : Bound) → left ≡ Some j → Attempting s t c xs (record { standing = course.standing; zeros = course.zeros; queue = first.queue }) j
   turn_attempts j e =
-      attempting_next s t c xs course begun turning.waits turning.from turning.stands b others taken turning.few j
+      attempting_next s t c xs course begun waits turning.from turning.stands first.bound first.queue popped_is turning.few j
       (left_is turning.from turning.stands ∙ e)
 
   -- a course that is the definition's after what is left is one turn on
   pub turn_done : (zs : List ℕ) (next : Course)
-      → ((p : Standing) (state : State) → Matches s t c p xs (record { standing = course.standing; zeros = course.zeros; queue = others }) state
+      → ((p : Standing) (state : State) → Matches s t c p xs (record { standing = course.standing; zeros = course.zeros; queue = first.queue }) state
       → Matches s t c p zs next (after_shrink (searched_column s t c) t.bound state state.queue left))
       → RestKept s.rows xs zs → Turned s t c course xs next zs
   turn_done zs next follows kept =
       let same : (p : Standing) (stands : Stands s t c p xs course)
       → Stands s t c p zs next × (total weight (contents (ring_of s.rows zs) next.queue) < total weight (contents (ring_of s.rows xs) course.queue)) =
       λ p stands.
-      stands_next s t c xs course begun turning.waits p stands b others taken zs next left (left_is p stands)
-      (follows p (dropped stands.state (contents (ring_of s.rows xs) others))
-      (without_first s t c xs course begun turning.waits p stands b others taken)) in
+      stands_next s t c xs course begun waits p stands first.bound first.queue popped_is zs next left (left_is p stands)
+      (follows p (dropped stands.state (contents (ring_of s.rows xs) first.queue))
+      (without_first s t c xs course begun waits p stands first.bound first.queue popped_is)) in
       record { stands = λ p stands. (same p stands).0; lighter = (same turning.from turning.stands).1; kept = kept }

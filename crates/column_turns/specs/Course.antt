@@ -1,26 +1,23 @@
 -- For proofs only. The state of a column's search as the code keeps it, beside the definition's: the error, the tries and the tree held so far, the
 -- zero marks and the queue, with the table of errors and the ring in lent words; and what the functions of a turn leave.
-use Rattle.std.specs.Prelude.{◌≡◌, ℕ, ◌+◌, ◌*◌, ◌≤◌, ◌<◌, List, [], ◌∷◌, Float}
+use Rattle.std.specs.Prelude.{◌≡◌, ℕ, ◌+◌, ◌*◌, ◌≤◌, ◌<◌, List, [], ◌∷◌, Some, None}
 use Rattle.basics.specs.Lists.{All, total}
-use Rattle.sheet.specs.declared.Size.{Size}
 use Rattle.sheet.specs.declared.Terms.{Terms}
 use Rattle.sheet.specs.Limits.{most_columns}
 use Rattle.sheet.specs.Sheet.{Sheet, count_of}
-use Rattle.sheet.specs.Check.{sheet_of}
 use Rattle.leaves_score.specs.Root.{errors_at}
-use Rattle.interval_pruner.specs.declared.Tried.TheVariants.{Nothing}
 use Rattle.interval_pruner.specs.declared.Bound.{Bound}
 use Rattle.interval_pruner.specs.declared.Zeros.{Zeros}
 use Rattle.interval_pruner.specs.Column.{recorded}
 use Rattle.interval_pruner.specs.Pruner.{zeros_after, recorded_after}
-use Rattle.interval_queue.specs.Ring.{contents}
+use Rattle.interval_queue.specs.declared.Popped.{Popped}
+use Rattle.interval_queue.specs.Ring.{contents, taken}
 use Rattle.interval_queue.specs.Laws.{Sane}
 use Rattle.column_search.specs.Search.{State, zeros_of, try_cut}
 use Rattle.column_search.specs.Laws.{Agree, IfCut}
 use Rattle.column_search.specs.Loop.{Running, weight}
 use Rattle.column_turns.specs.declared.interval_steps.Standing.{Standing}
 use Rattle.column_turns.specs.declared.Course.{Course}
-use Rattle.column_turns.specs.declared.ColumnCut.{ColumnCut}
 use Rattle.column_turns.specs.declared.Attempt.{Attempt}
 use Rattle.column_turns.specs.Parts.{CutsNumbered}
 use Rattle.column_turns.specs.Lent.{table_of, ring_of, Enough, RestKept}
@@ -51,13 +48,13 @@ pub record Begun (s : Sheet) (t : Terms) (c : ℕ) (scratch : List ℕ) : Type 0
   pub some : first_at s t c < (feasible_at s t c).end
   pub enough : Enough s.rows scratch
 
--- an interval waits, of a run that may be counted on
-pub record Turning (s : Sheet) (t : Terms) (c : ℕ) (scratch : List ℕ) (course : Course) : Type 0 where
+-- the first interval that waits, of a run that may be counted on
+pub record Turning (s : Sheet) (t : Terms) (c : ℕ) (scratch : List ℕ) (course : Course) (first : Popped) : Type 0 where
   pub begun : Begun s t c scratch
   pub from : Standing
   pub few : from.tried ≤ most_columns * most_tries
   pub stands : Stands s t c from scratch course
-  pub waits : 0 < course.queue.waiting
+  pub first_is : taken (ring_of s.rows scratch) course.queue ≡ Some first
 
 -- after a turn the code's state is one of the same run still, and less waits
 pub record Turned (s : Sheet) (t : Terms) (c : ℕ) (course : Course) (was : List ℕ) (next : Course) (scratch : List ℕ) : Type 0 where
@@ -73,11 +70,6 @@ pub record Attempted (s : Sheet) (support c k : ℕ) (zeros : Zeros) (was scratc
   pub zeros_are : attempt.zeros ≡ zeros_after zeros k (errors_at s support c k).0 (errors_at s support c k).1
   pub lent :
       Became s.rows was scratch (recorded_after (table_of s.rows was) k (errors_at s support c k).0 (errors_at s support c k).1) (ring_of s.rows was)
-
--- a try does not look at how many cuts the columns have
-abbrev pub AttemptedAt : Size → List Float → List ℕ → List ℕ → List ℕ → ℕ → ColumnCut → Zeros → List ℕ → Attempt → List ℕ → Type 0
-AttemptedAt size values codes order cuts support at zeros was attempt scratch =
-    (counts : List ℕ) → Attempted (sheet_of size values codes order cuts counts) support at.column at.cut zeros was scratch attempt
 
 -- an interval of listed cuts of a sheet's column, with remembered cuts of the list, whose middle is tried
 pub record Attempting (s : Sheet) (t : Terms) (c : ℕ) (scratch : List ℕ) (course : Course) (i : Bound) : Type 0 where
@@ -104,6 +96,6 @@ pub record IntervalTried (s : Sheet) (t : Terms) (c : ℕ) (course : Course) (i 
 -- one interval waits, nothing was tried
 pub record Opened (rows : ℕ) (scratch : List ℕ) (first last : ℕ) (standing : Standing) (course : Course) : Type 0 where
   pub standing_is : course.standing ≡ standing
-  pub zeros : course.zeros ≡ record { left = Nothing; right = Nothing }
-  pub queue : contents (ring_of rows scratch) course.queue ≡ record { first = first; last = last; left = Nothing; right = Nothing } ∷ []
+  pub zeros : course.zeros ≡ record { left = None; right = None }
+  pub queue : contents (ring_of rows scratch) course.queue ≡ record { first = first; last = last; left = None; right = None } ∷ []
   pub sane : Sane (ring_of rows scratch) course.queue

@@ -1,9 +1,8 @@
 -- For proofs only. The queue of a column in lent words: what step 5 adds to it, and what that needs.
-use Rattle.std.specs.Prelude.{◌≡◌, ℕ, ◌+◌, ◌≤◌, ◌<◌, Bool, List, [], ◌++◌, length, eqb}
+use Rattle.std.specs.Prelude.{◌≡◌, ℕ, ◌+◌, ◌≤◌, ◌<◌, Bool, List, [], ◌++◌, length, eqb, Option}
 use Rattle.basics.specs.Choice.{pick}
 use Rattle.sheet.specs.Limits.{most_rows}
 use Rattle.cuts.specs.Lookups.{place, Ascending}
-use Rattle.interval_pruner.specs.declared.Tried.{Tried}
 use Rattle.interval_pruner.specs.declared.Bound.{Bound}
 use Rattle.interval_pruner.specs.declared.Zeros.{Zeros}
 use Rattle.interval_pruner.specs.declared.Parts.{Parts}
@@ -18,7 +17,7 @@ use Rattle.column_turns.specs.declared.interval_steps.Reach.{Reach}
 use Rattle.column_turns.specs.Lent.{table_of, ring_of, Enough, RestKept}
 
 -- a cut of a list of n, if there is one
-abbrev pub CutsNumbered : ℕ → Tried → Type 0
+abbrev pub CutsNumbered : ℕ → Option ℕ → Type 0
 CutsNumbered n t = HeldCut (λ k. k < n) t
 
 -- step 5 by the cuts' places, for a try of that error

@@ -1,7 +1,7 @@
 -- For a signer. The search of one column in code: the sheet that it asks for, and what it promises, by the definition of a column's run (column_search).
 -- Definitions and statements only.
-use Rattle.std.specs.Prelude.{◌≡◌, ℕ, ◌+◌, ◌-◌, ◌*◌, ◌≤◌, ◌<◌, List, ltb}
-use Rattle.std.proofs.Math.Option.{Option, none, some}
+use Rattle.std.specs.Prelude.{◌≡◌, ℕ, ◌+◌, ◌-◌, ◌*◌, ◌≤◌, ◌<◌, List, ltb, Option, Some}
+use Rattle.std.proofs.Math.Option.{Option as Maybe, none, some}
 use Rattle.basics.specs.Choice.{pick}
 use Rattle.sheet.specs.declared.Terms.{Terms}
 use Rattle.sheet.specs.Limits.{most_columns}
@@ -11,8 +11,7 @@ use Rattle.sheet.specs.Laws.{Lengths}
 use Rattle.cuts.specs.declared.Run.{Run}
 use Rattle.cuts.specs.Feasible.{feasible_of}
 use Rattle.column_search.specs.Search.{State, column_run, tries_of}
-use Rattle.column_turns.specs.declared.interval_steps.Held.{Held}
-use Rattle.column_turns.specs.declared.interval_steps.Held.TheVariants.{Rule}
+use Rattle.tree.specs.declared.Tree.{Tree}
 use Rattle.column_turns.specs.declared.interval_steps.Standing.{Standing}
 use Rattle.column_turns.specs.Lent.{Enough, RestKept}
 use Rattle.column_turns.specs.Try.{searched_column, tree_at}
@@ -38,9 +37,9 @@ pub record Searching (s : Sheet) (c : ℕ) (standing : Standing) (scratch : List
 -- ---- what is promised
 
 -- the tree held after a run of column c that ends with that best cut and that error
-unfoldable pub held_after : Sheet → ℕ → ℕ → Option ℕ → ℕ → Held → Held
+unfoldable pub held_after : Sheet → ℕ → ℕ → Maybe ℕ → ℕ → Option Tree → Option Tree
 held_after s support c none error held = held
-held_after s support c (some k) error held = Rule (tree_at s support c k error)
+held_after s support c (some k) error held = Some (tree_at s support c k error)
 
 -- the standing after such a run: its error, its tries too, and the tree held
 unfoldable pub standing_after_run : Sheet → ℕ → ℕ → Standing → State → Standing

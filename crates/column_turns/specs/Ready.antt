@@ -1,10 +1,10 @@
 -- For proofs only. What the functions behind the search may count on once the input check has accepted the sheet, and what they leave. Statements only.
-use Rattle.std.specs.Prelude.{◌≡◌, ℕ, zero, suc, ◌+◌, ◌*◌, ◌≤◌, ◌<◌, Bool, List, length, get_or, ltb, Float}
+use Rattle.std.specs.Prelude.{◌≡◌, ℕ, zero, suc, ◌+◌, ◌*◌, ◌≤◌, ◌<◌, Bool, List, length, get_or, ltb}
 use Rattle.basics.specs.Choice.{pick}
 use Rattle.sheet.specs.declared.Size.{Size}
 use Rattle.sheet.specs.Limits.{most_rows, most_columns}
-use Rattle.sheet.specs.Sheet.{count_of}
-use Rattle.sheet.specs.Check.{sheet_of}
+use Rattle.sheet.specs.declared.lent.LentSheet.{LentSheet}
+use Rattle.sheet.specs.Sheet.{Sheet, count_of}
 use Rattle.tree.specs.declared.Tree.{Tree}
 use Rattle.column_turns.specs.Lent.{table_of, ring_of, marks_of, Enough, RestKept}
 use Rattle.column_turns.specs.Promise.{Whole}
@@ -34,10 +34,16 @@ MarkedTo size order column place marks n =
     → get_or marks (get_or order (column * size.rows + i) 0) 0 ≡ pick (left (get_or order (column * size.rows + i) 0)) 0 1
 
 -- the same, with the marks in the lent words, and a cut of the list
-pub record MarkingCut (size : Size) (order cuts : List ℕ) (column cut : ℕ) (scratch : List ℕ) : Type 0 where
-  pub marking : Marking size order column (marks_of size.rows scratch)
-  pub listed : column * size.rows + cut < length cuts
-  pub enough : Enough size.rows scratch
+pub record MarkingCut (l : LentSheet) (column cut : ℕ) (scratch : List ℕ) : Type 0 where
+  pub marking : Marking l.measured.size l.order.now column (marks_of l.measured.size.rows scratch)
+  pub listed : column * l.measured.size.rows + cut < length l.cuts.now
+  pub enough : Enough l.measured.size.rows scratch
+
+-- the marks of a cut in the lent words, with the table and the ring as they were
+pub record CutMarked (l : LentSheet) (column cut : ℕ) (was scratch : List ℕ) : Type 0 where
+  pub became : Became l.measured.size.rows was scratch (table_of l.measured.size.rows was) (ring_of l.measured.size.rows was)
+  pub marked : MarkedTo l.measured.size l.order.now column (get_or l.cuts.now (column * l.measured.size.rows + cut) 0)
+      (marks_of l.measured.size.rows scratch) l.measured.size.rows
 
 -- ---- a try
 
@@ -47,35 +53,33 @@ place_before cuts base zero = 0
 place_before cuts base (suc k) = get_or cuts (base + k) 0
 
 -- the column's cut is one of its list, and so is the one before it; the order's entries are rows, and every row has a value
-pub record TryingCut (size : Size) (values : List Float) (order cuts : List ℕ) (column cut : ℕ) : Type 0 where
-  pub rows_some : 1 ≤ size.rows
-  pub rows_most : size.rows ≤ most_rows
+pub record TryingCut (l : LentSheet) (column cut : ℕ) : Type 0 where
+  pub rows_some : 1 ≤ l.measured.size.rows
+  pub rows_most : l.measured.size.rows ≤ most_rows
   pub columns_most : column < most_columns
-  pub ordered : column * size.rows + size.rows ≤ length order
-  pub valued : column * size.rows + size.rows ≤ length values
-  pub listed : column * size.rows + cut < length cuts
-  pub placed : (k : ℕ) → k ≤ cut → get_or cuts (column * size.rows + k) 0 < size.rows
-  pub in_rows : (i : ℕ) → i < size.rows → get_or order (column * size.rows + i) 0 < size.rows
+  pub ordered : column * l.measured.size.rows + l.measured.size.rows ≤ length l.order.now
+  pub valued : column * l.measured.size.rows + l.measured.size.rows ≤ length l.measured.values.now
+  pub listed : column * l.measured.size.rows + cut < length l.cuts.now
+  pub placed : (k : ℕ) → k ≤ cut → get_or l.cuts.now (column * l.measured.size.rows + k) 0 < l.measured.size.rows
+  pub in_rows : (i : ℕ) → i < l.measured.size.rows → get_or l.order.now (column * l.measured.size.rows + i) 0 < l.measured.size.rows
 
--- a listed cut of an accepted sheet, and scratch enough; how many cuts the columns have does not matter to a try
-pub record Trying (size : Size) (values : List Float) (codes order cuts : List ℕ) (column cut : ℕ) (scratch : List ℕ) : Type 0 where
-  pub counts : List ℕ
-  pub whole : Whole (sheet_of size values codes order cuts counts)
-  pub here : column < size.columns
-  pub cut_in : cut < count_of (sheet_of size values codes order cuts counts) column
-  pub enough : Enough size.rows scratch
+-- a listed cut of an accepted sheet, and scratch enough
+pub record Trying (s : Sheet) (column cut : ℕ) (scratch : List ℕ) : Type 0 where
+  pub whole : Whole s
+  pub here : column < s.columns
+  pub cut_in : cut < count_of s column
+  pub enough : Enough s.rows scratch
 
 -- the tree that it makes, with the table and the ring as they were
-abbrev pub CutTried : Size → ℕ → List Float → List ℕ → List ℕ → List ℕ → ℕ → ℕ → List ℕ → Tree → List ℕ → Type 0
-CutTried size support values codes order cuts column cut was tree scratch =
-    ((counts : List ℕ) → tree ≡ tried_tree (sheet_of size values codes order cuts counts) support column cut)
-    × Became size.rows was scratch (table_of size.rows was) (ring_of size.rows was)
+abbrev pub CutTried : Sheet → ℕ → ℕ → ℕ → List ℕ → Tree → List ℕ → Type 0
+CutTried s support column cut was tree scratch =
+    (tree ≡ tried_tree s support column cut) × Became s.rows was scratch (table_of s.rows was) (ring_of s.rows was)
 
 -- ---- a column's cuts
 
 -- the column's list lies in the cut lists
-pub record PlacedIn (size : Size) (cuts counts : List ℕ) (column : ℕ) : Type 0 where
-  pub rows_most : size.rows ≤ most_rows
+pub record PlacedIn (l : LentSheet) (column : ℕ) : Type 0 where
+  pub rows_most : l.measured.size.rows ≤ most_rows
   pub columns_most : column < most_columns
-  pub counted : column < length counts
-  pub listed : column * size.rows + get_or counts column 0 ≤ length cuts
+  pub counted : column < length l.counts.now
+  pub listed : column * l.measured.size.rows + get_or l.counts.now column 0 ≤ length l.cuts.now

@@ -1,27 +1,24 @@
 -- For proofs only. What one interval's turn decides: what steps 1 and 2 leave of it, what steps 3 and 4 make of the standing, and what step 5 takes
 -- from the terms.
-use Rattle.std.specs.Prelude.{◌≡◌, ℕ, ◌+◌, ◌-◌, min, Bool, ◌&&◌, List, leb, ltb, eqb}
+use Rattle.std.specs.Prelude.{◌≡◌, ℕ, ◌+◌, ◌-◌, min, Bool, ◌&&◌, List, leb, ltb, eqb, Option, Some, None}
 use Rattle.basics.specs.Choice.{pick}
 use Rattle.sheet.specs.declared.Terms.{Terms}
 use Rattle.cuts.specs.Lookups.{Ascending}
 use Rattle.tree.specs.declared.Tree.{Tree}
 use Rattle.interval_pruner.specs.declared.Bound.{Bound}
-use Rattle.interval_pruner.specs.declared.Shrunk.{Shrunk}
-use Rattle.interval_pruner.specs.declared.Shrunk.TheVariants.{Dropped}
 use Rattle.interval_pruner.specs.declared.Zeros.{Zeros}
 use Rattle.interval_pruner.specs.Column.{Column, recorded_column}
 use Rattle.interval_pruner.specs.Pruner.{hopeless, shrunk_of}
-use Rattle.column_turns.specs.declared.interval_steps.Held.TheVariants.{Rule}
 use Rattle.column_turns.specs.declared.interval_steps.Standing.{Standing}
 use Rattle.column_turns.specs.declared.interval_steps.Reach.{Reach}
 use Rattle.column_turns.specs.Lent.{table_of}
 
 -- steps 1 and 2: what is left of an interval, nothing where it is hopeless
-unfoldable pub pruned_of : Column → Zeros → ℕ → Bound → Shrunk
-pruned_of c z b i = pick (hopeless c b i) Dropped (shrunk_of c z b i)
+unfoldable pub pruned_of : Column → Zeros → ℕ → Bound → Option Bound
+pruned_of c z b i = pick (hopeless c b i) None (shrunk_of c z b i)
 
 -- the same by the errors that the lent words keep, at the current error
-abbrev pub PrunedBy : ℕ → Terms → List ℕ → Zeros → Bound → ℕ → List ℕ → Shrunk → Type 0
+abbrev pub PrunedBy : ℕ → Terms → List ℕ → Zeros → Bound → ℕ → List ℕ → Option Bound → Type 0
 PrunedBy rows t places z i error scratch left =
     Ascending places → left ≡ pruned_of (recorded_column places (table_of rows scratch) t.gap (leb t.support 1)) z (min error t.bound) i
 
@@ -31,7 +28,7 @@ improved_by p tree =
     record {
       error = min tree.error p.error;
       tried = p.tried + 1;
-      held = pick (ltb tree.error p.error) (Rule tree) p.held;
+      held = pick (ltb tree.error p.error) (Some tree) p.held;
     }
 
 -- "if it is 0, the column ends"

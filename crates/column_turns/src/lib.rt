@@ -4,36 +4,35 @@
 pub mod cut_try;
 pub mod interval_steps;
 
-ghost use Rattle.std.specs.Prelude.{◌≡◌, List, ℕ, ◌≤◌, ◌<◌, Float};
+ghost use Rattle.std.specs.Prelude.{◌≡◌, ◌≤◌, ◌<◌};
 ghost use Rattle.sheet.specs.Limits.{most_rows};
 ghost use Rattle.sheet.specs.Sheet.{places_of};
-ghost use Rattle.sheet.specs.Check.{sheet_of};
+ghost use Rattle.sheet.specs.Lent.{sheet_in};
 ghost use Rattle.interval_pruner.specs.Pruner.{zeros_after, recorded_after};
-ghost use Rattle.interval_queue.specs.Ring.{popped, pushed, pushed_words};
+ghost use Rattle.interval_queue.specs.Ring.{taken, pushed, pushed_words};
 ghost use Rattle.column_search.specs.Search.{part, upper_part, lower_part};
 ghost use Rattle.column_turns.specs.Lent.{table_of, ring_of, Enough, RestKept};
 ghost use Rattle.column_turns.specs.Promise.{Searching, ColumnSearched};
 ghost use Rattle.column_turns.specs.Ready.{Became, Trying, PlacedIn};
 ghost use Rattle.column_turns.specs.Parts.{PartsWaiting, Pushing, Queued, QueuedAfter, parts_queued};
-ghost use Rattle.column_turns.specs.Course.{AttemptedAt, Attempting, IntervalTried, Turning, Turned, Opened};
+ghost use Rattle.column_turns.specs.Course.{Attempted, Attempting, IntervalTried, Turning, Turned, Opened};
 
 use crate::cut_try::{MARKS, RING, side_error, try_cut};
 use crate::interval_steps::{Reach, Standing, ends_column, improved, prune, reach_of};
-use basics::{wide_entry, wide_word};
 use cuts::feasible_cuts::support_feasible_splits;
-use interval_pruner::{Bound, Shrunk, Tried, Zeros};
+use interval_pruner::neighbourhood_pruning::neighbourhood_pruning;
+use interval_pruner::{Bound, Zeros};
 use interval_queue::{Popped, Queue};
-use sheet::{Size, Terms};
+use sheet::Terms;
+use sheet::lent::LentSheet;
 use tree::Tree;
 
 // The first interval that waits.
-fn next_interval(rows: usize, queue: Queue, scratch: &[u32]) -> Popped
+fn next_interval(rows: usize, queue: Queue, scratch: &[u32]) -> Option<Popped>
     requires { Enough rows scratch.now }
-    ensures { result ≡ popped (ring_of rows scratch.now) queue }
+    ensures { result ≡ taken (ring_of rows scratch.now) queue }
 {
-    let from = RING * rows;
-    let to = MARKS * rows;
-    interval_queue::pop(&scratch[from..to], queue)
+    interval_queue::pop(&scratch[RING * rows..MARKS * rows], queue)
 }
 
 // One interval more.
@@ -42,9 +41,7 @@ fn add_interval(rows: usize, queue: Queue, bound: Bound, scratch: &mut [u32]) ->
     ensures value { result ≡ pushed (ring_of rows scratch.old) queue }
     ensures lent { Became rows scratch.old scratch.new (table_of rows scratch.old) (pushed_words (ring_of rows scratch.old) queue bound) }
 {
-    let from = RING * rows;
-    let to = MARKS * rows;
-    interval_queue::push(&mut scratch[from..to], queue, bound)
+    interval_queue::push(&mut scratch[RING * rows..MARKS * rows], queue, bound)
 }
 
 // A part is queued if it is not empty.
@@ -62,12 +59,10 @@ fn queue_part(rows: usize, queue: Queue, bound: Bound, scratch: &mut [u32]) -> Q
 fn upper_part(bound: Bound, cut: usize, first: usize) -> Bound
     ensures { result ≡ upper_part bound cut first }
 {
-    let right = bound.right;
     Bound {
         first,
-        last: bound.last,
-        left: Tried::Cut(cut),
-        right,
+        left: Some(cut),
+        ..bound
     }
 }
 
@@ -75,12 +70,10 @@ fn upper_part(bound: Bound, cut: usize, first: usize) -> Bound
 fn lower_part(bound: Bound, cut: usize, last: usize) -> Bound
     ensures { result ≡ lower_part bound cut last }
 {
-    let left = bound.left;
     Bound {
-        first: bound.first,
         last,
-        left,
-        right: Tried::Cut(cut),
+        right: Some(cut),
+        ..bound
     }
 }
 
@@ -101,7 +94,7 @@ fn queue_parts(
     if bound.first == bound.last {
         return queue;
     }
-    let parts = interval_pruner::neighbourhood_pruning::neighbourhood_pruning(
+    let parts = neighbourhood_pruning(
         places,
         zeros,
         reach.gap,
@@ -133,8 +126,8 @@ fn next_queue(
 {
     if over {
         return Queue {
-            head: queue.head,
             waiting: 0,
+            ..queue
         };
     }
     queue_parts(rows, places, reach, zeros, bound, cut, queue, scratch)
@@ -153,20 +146,19 @@ fn keep_errors(
     ensures value { result ≡ zeros_after zeros cut left right }
     ensures lent { Became rows scratch.old scratch.new (recorded_after (table_of rows scratch.old) cut left right) (ring_of rows scratch.old) }
 {
-    let end = RING * rows;
-    interval_pruner::add_result(&mut scratch[..end], zeros, cut, left, right)
+    interval_pruner::add_result(&mut scratch[..RING * rows], zeros, cut, left, right)
 }
 
 // ---- one interval
 
 // The places of a column's cuts.
-fn places_of<'a>(size: Size, cuts: &'a [u16], counts: &[u16], column: usize) -> &'a [u16]
-    requires { PlacedIn size cuts.now counts.now column }
-    ensures { (values : List Float) (codes order : List ℕ) → result.now ≡ places_of (sheet_of size values codes order cuts.now counts.now) column }
+fn places_of<'a>(sheet: &LentSheet<'a>, column: usize) -> &'a [u16]
+    requires { PlacedIn sheet.now column }
+    ensures { result.now ≡ places_of (sheet_in sheet.now) column }
 {
-    let base = column * size.rows;
-    let end = base + wide_entry(counts[column]);
-    &cuts[base..end]
+    let base = column * sheet.measured.size.rows;
+    let end = base + usize::from(sheet.counts[column]);
+    &sheet.cuts[base..end]
 }
 
 // The state between two intervals of a column.
@@ -175,13 +167,6 @@ pub struct Course {
     pub standing: Standing,
     pub zeros: Zeros,
     pub queue: Queue,
-}
-
-// A cut of a column, by number.
-#[derive(Clone, Copy)]
-struct ColumnCut {
-    column: usize,
-    cut: usize,
 }
 
 // A try, and the zero marks after it.
@@ -193,104 +178,95 @@ struct Attempt {
 
 // Step 3: a cut is tried, and its errors are kept.
 fn try_and_keep(
-    size: Size,
+    sheet: &LentSheet,
     support: u32,
-    values: &[f64],
-    codes: &[u8],
-    order: &[u16],
-    cuts: &[u16],
-    at: ColumnCut,
+    column: usize,
+    cut: usize,
     zeros: Zeros,
     scratch: &mut [u32],
 ) -> Attempt
-    requires { Trying size values.now codes.now order.now cuts.now at.column at.cut scratch.old }
-    ensures { AttemptedAt size values.now codes.now order.now cuts.now support at zeros scratch.old result scratch.new }
+    requires { Trying (sheet_in sheet.now) column cut scratch.old }
+    ensures { Attempted (sheet_in sheet.now) support column cut zeros scratch.old scratch.new result }
 {
-    let rows = size.rows;
-    let tree = try_cut(
-        size, support, values, codes, order, cuts, at.column, at.cut, scratch,
-    );
-    let left = tree.left;
-    let right = tree.right;
-    let marks = keep_errors(
-        rows,
-        zeros,
-        at.cut,
-        side_error(left),
-        side_error(right),
-        scratch,
-    );
-    Attempt { tree, zeros: marks }
+    let rows = sheet.measured.size.rows;
+    let tree = try_cut(sheet, support, column, cut, scratch);
+    let left = side_error(tree.left);
+    let right = side_error(tree.right);
+    let zeros = keep_errors(rows, zeros, cut, left, right, scratch);
+    Attempt { tree, zeros }
 }
 
 // Steps 3 to 5 of an interval.
 fn try_interval(
-    size: Size,
+    sheet: &LentSheet,
     terms: Terms,
-    values: &[f64],
-    codes: &[u8],
-    order: &[u16],
-    cuts: &[u16],
-    counts: &[u16],
     column: usize,
     course: Course,
     bound: Bound,
     scratch: &mut [u32],
 ) -> Course
-    requires { Attempting (sheet_of size values.now codes.now order.now cuts.now counts.now) terms column scratch.old course bound }
-    ensures { IntervalTried (sheet_of size values.now codes.now order.now cuts.now counts.now) terms column course bound scratch.old result scratch.new }
+    requires { Attempting (sheet_in sheet.now) terms column scratch.old course bound }
+    ensures { IntervalTried (sheet_in sheet.now) terms column course bound scratch.old result scratch.new }
 {
-    let rows = size.rows;
-    let was = course.zeros;
-    let queue = course.queue;
-    let standing = course.standing;
-    let support = terms.support;
     let cut = (bound.first + bound.last) / 2;
-    let at = ColumnCut { column, cut };
-    let tried = try_and_keep(size, support, values, codes, order, cuts, at, was, scratch);
+    let tried = try_and_keep(sheet, terms.support, column, cut, course.zeros, scratch);
     let tree = tried.tree;
     let zeros = tried.zeros;
-    let next = improved(standing, tree);
-    let over = ends_column(tree.error, standing.error);
-    let reach = reach_of(terms, tree.error, next.error);
-    let places = places_of(size, cuts, counts, column);
-    let waiting = next_queue(rows, places, reach, zeros, over, bound, cut, queue, scratch);
-    Course {
-        standing: next,
+    let standing = improved(course.standing, tree);
+    let over = ends_column(tree.error, course.standing.error);
+    let reach = reach_of(terms, tree.error, standing.error);
+    let places = places_of(sheet, column);
+    let rows = sheet.measured.size.rows;
+    let queue = next_queue(
+        rows,
+        places,
+        reach,
         zeros,
-        queue: waiting,
+        over,
+        bound,
+        cut,
+        course.queue,
+        scratch,
+    );
+    Course {
+        standing,
+        zeros,
+        queue,
     }
 }
 
-// One interval: steps 1 to 5.
+// One interval, the first that waited: steps 1 to 5.
 fn turn(
-    size: Size,
+    sheet: &LentSheet,
     terms: Terms,
-    values: &[f64],
-    codes: &[u8],
-    order: &[u16],
-    cuts: &[u16],
-    counts: &[u16],
     column: usize,
-    mut course: Course,
+    course: Course,
+    first: Popped,
     scratch: &mut [u32],
 ) -> Course
-    requires { Turning (sheet_of size values.now codes.now order.now cuts.now counts.now) terms column scratch.old course }
-    ensures { Turned (sheet_of size values.now codes.now order.now cuts.now counts.now) terms column course scratch.old result scratch.new }
+    requires { Turning (sheet_in sheet.now) terms column scratch.old course first }
+    ensures { Turned (sheet_in sheet.now) terms column course scratch.old result scratch.new }
 {
-    let zeros = course.zeros;
-    let error = course.standing.error;
-    let first = next_interval(size.rows, course.queue, scratch);
-    let places = places_of(size, cuts, counts, column);
-    let pruned = prune(size.rows, terms, places, zeros, first.bound, error, scratch);
-    let others = first.queue;
-    course.queue = others;
-    let Shrunk::To(left) = pruned else {
-        return course;
+    let others = Course {
+        queue: first.queue,
+        ..course
     };
-    try_interval(
-        size, terms, values, codes, order, cuts, counts, column, course, left, scratch,
-    )
+    let rows = sheet.measured.size.rows;
+    let error = course.standing.error;
+    let places = places_of(sheet, column);
+    let pruned = prune(
+        rows,
+        terms,
+        places,
+        course.zeros,
+        first.bound,
+        error,
+        scratch,
+    );
+    let Some(left) = pruned else {
+        return others;
+    };
+    try_interval(sheet, terms, column, others, left, scratch)
 }
 
 // ---- a column
@@ -310,8 +286,8 @@ fn begin_column(
     let all = Bound {
         first,
         last,
-        left: Tried::Nothing,
-        right: Tried::Nothing,
+        left: None,
+        right: None,
     };
     let none = Queue {
         head: 0,
@@ -319,8 +295,8 @@ fn begin_column(
     };
     let queue = queue_part(rows, none, all, scratch);
     let zeros = Zeros {
-        left: Tried::Nothing,
-        right: Tried::Nothing,
+        left: None,
+        right: None,
     };
     Course {
         standing,
@@ -331,30 +307,23 @@ fn begin_column(
 
 // One column's search: turn by turn, from the one interval of its feasible cuts, until nothing waits.
 pub fn search_column(
-    size: Size,
+    sheet: &LentSheet,
     terms: Terms,
-    values: &[f64],
-    codes: &[u8],
-    order: &[u16],
-    cuts: &[u16],
-    counts: &[u16],
     column: usize,
     standing: Standing,
     scratch: &mut [u32],
 ) -> Standing
-    requires { Searching (sheet_of size values.now codes.now order.now cuts.now counts.now) column standing scratch.old }
-    ensures { ColumnSearched (sheet_of size values.now codes.now order.now cuts.now counts.now) terms column standing scratch.old result scratch.new }
+    requires { Searching (sheet_in sheet.now) column standing scratch.old }
+    ensures { ColumnSearched (sheet_in sheet.now) terms column standing scratch.old result scratch.new }
 {
-    let places = places_of(size, cuts, counts, column);
-    let run = support_feasible_splits(places, size.rows, wide_word(terms.support));
+    let rows = sheet.measured.size.rows;
+    let run = support_feasible_splits(places_of(sheet, column), rows, terms.support as usize);
     if run.end <= run.first {
         return standing;
     }
-    let mut course = begin_column(size.rows, run.first, run.end - 1, standing, scratch);
-    while 0 < course.queue.waiting {
-        course = turn(
-            size, terms, values, codes, order, cuts, counts, column, course, scratch,
-        );
+    let mut course = begin_column(rows, run.first, run.end - 1, standing, scratch);
+    while let Some(first) = next_interval(rows, course.queue, scratch) {
+        course = turn(sheet, terms, column, course, first, scratch);
     }
     course.standing
 }

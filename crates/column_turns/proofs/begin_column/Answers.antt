@@ -5,7 +5,7 @@ use mathlib.Core.List.{◌++◌}
 use Rattle.column_turns.proofs.Queueing.{part_full}
 use Rattle.column_turns.proofs.Loop.{first_pushing, none_waits}
 use Rattle.column_turns.specs.Lent.{ring_of}
-use Rattle.interval_pruner.specs.declared.Tried.TheVariants.{Nothing}
+use Rattle.std.specs.Prelude.{None}
 use Rattle.column_turns.proofs.begin_column.Goals as goal
 
 pub queue_part-queue-requires : goal.queue_part-queue-requires
@@ -25,7 +25,7 @@ returns c =
         zeros = refl;
         queue =
             queued.contents_are
-            ∙ (λ k. none_waits (ring_of a.rows a.scratch.now) (record { head = 0; waiting = 0 }) (omega arith) k ++ part_full (record { first = a.first; last = a.last; left = Nothing; right = Nothing }) start.requires.1 k);
+            ∙ (λ k. none_waits (ring_of a.rows a.scratch.now) (record { head = 0; waiting = 0 }) (omega arith) k ++ part_full (record { first = a.first; last = a.last; left = None; right = None }) start.requires.1 k);
         sane = queued.sane;
       };
       lent = queued.kept;

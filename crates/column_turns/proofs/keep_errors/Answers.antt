@@ -5,7 +5,8 @@ use native.Mathlib.Omega.{arith}
 use mathlib.Core.List.{List}
 use lib.Seq.{length-take-le}
 use Rattle.column_turns.specs.Lent.{table_of}
-use Rattle.column_turns.proofs.Lent.{table_became, recorded_length}
+use Rattle.column_turns.proofs.Lent.{table_became}
+use Rattle.interval_pruner.proofs.Results.{recorded_length}
 use Rattle.interval_pruner.specs.Pruner.{recorded_after}
 use Rattle.column_turns.proofs.keep_errors.Goals as goal
 

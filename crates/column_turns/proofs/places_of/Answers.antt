@@ -5,8 +5,6 @@ use Rattle.column_turns.proofs.Places.{places_part}
 use Rattle.column_turns.proofs.places_of.Goals as goal
 
 pub returns : goal.returns
-returns c values codes order =
-    let start = c in
-    let a = start.args in
-    places_part a.size values codes order a.cuts.now a.counts.now a.column (a.column * a.size.rows + c.wide_entry.result) start.requires
-    (ap (λ (n : ℕ). a.column * a.size.rows + n) c.wide_entry.ensures.0)
+returns c =
+    let a = c.args in
+    places_part a.sheet.now a.column _ c.requires (ap (λ (n : ℕ). a.column * a.sheet.now.measured.size.rows + n) c.from.ensures)

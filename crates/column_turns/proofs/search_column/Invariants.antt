@@ -3,7 +3,7 @@
 use Prim.Native.Nat.{◌*◌, ◌≤◌}
 use Rattle.basics.specs.Lists.{total}
 use Rattle.sheet.specs.Limits.{most_columns}
-use Rattle.sheet.specs.Check.{sheet_of}
+use Rattle.sheet.specs.Lent.{sheet_in}
 use Rattle.interval_queue.specs.Ring.{contents}
 use Rattle.column_search.specs.Loop.{weight}
 use Rattle.column_turns.specs.Lent.{ring_of, RestKept}
@@ -11,12 +11,12 @@ use Rattle.column_turns.specs.Promise.{most_tries}
 use Rattle.column_turns.specs.Course.{Stands, Begun}
 use Rattle.column_turns.proofs.search_column.Given as goal
 
-abbrev pub invariant-loop-course : goal.invariant-loop-course
-invariant-loop-course l =
-    Begun (sheet_of l.size l.values l.codes l.order l.cuts l.counts) l.terms l.column l.scratch
+abbrev pub invariant-loop-first : goal.invariant-loop-first
+invariant-loop-first l =
+    Begun (sheet_in l.sheet) l.terms l.column l.scratch
     × (l.initial.course.standing.tried ≤ most_columns * most_tries)
-    × Stands (sheet_of l.size l.values l.codes l.order l.cuts l.counts) l.terms l.column l.initial.course.standing l.scratch l.course
-    × RestKept l.size.rows l.initial.scratch l.scratch
+    × Stands (sheet_in l.sheet) l.terms l.column l.initial.course.standing l.scratch l.course
+    × RestKept l.rows l.initial.scratch l.scratch
 
-abbrev pub decreases-loop-course : goal.decreases-loop-course
-decreases-loop-course l = total weight (contents (ring_of l.size.rows l.scratch) l.course.queue)
+abbrev pub decreases-loop-first : goal.decreases-loop-first
+decreases-loop-first l = total weight (contents (ring_of l.rows l.scratch) l.course.queue)

@@ -5,7 +5,7 @@ use native.Mathlib.Omega.{arith}
 use mathlib.Core.List.{List, ◌++◌, []}
 use Rattle.basics.specs.Choice.{pick}
 use Rattle.sheet.specs.Sheet.{Sheet}
-use Rattle.sheet.specs.Check.{sheet_of}
+use Rattle.sheet.specs.Lent.{sheet_in}
 use Rattle.interval_queue.specs.Ring.{contents}
 use Rattle.column_search.specs.Search.{middle, try_cut}
 use Rattle.column_turns.specs.declared.interval_steps.Standing.{Standing}
@@ -30,23 +30,23 @@ pub try_and_keep-tried-requires : goal.try_and_keep-tried-requires
 try_and_keep-tried-requires c =
     let start = c in
     let a = start.args in
-    to_try a.size a.values.now a.codes.now a.order.now a.cuts.now a.counts.now a.terms a.column a.scratch.now a.course a.bound start.requires
+    to_try (sheet_in a.sheet.now) a.terms a.column a.scratch.now a.course a.bound start.requires
 
 pub places_of-places-requires : goal.places_of-places-requires
 places_of-places-requires c =
     let start = c in
     let a = start.args in
-    placed_in a.size a.values.now a.codes.now a.order.now a.cuts.now a.counts.now a.column start.requires.whole start.requires.here
+    placed_in a.sheet.now a.column start.requires.whole start.requires.here
 
-pub next_queue-waiting-requires : goal.next_queue-waiting-requires
-next_queue-waiting-requires c =
+pub next_queue-queue-requires : goal.next_queue-queue-requires
+next_queue-queue-requires c =
     let start = c in
     let a = start.args in
     let tried = c.try_and_keep-tried in
     let ys : List ℕ = tried.new.scratch in
-    subst (λ (l : List ℕ). PartsWaiting a.size.rows l tried.result.zeros a.bound (middle a.bound) a.course.queue ys)
-    (sym (c.places_of-places.ensures a.values.now a.codes.now a.order.now))
-    (to_part a.size a.values.now a.codes.now a.order.now a.cuts.now a.counts.now a.terms a.column a.scratch.now a.course a.bound start.requires ys tried.result (tried.ensures a.counts.now))
+    subst (λ (l : List ℕ). PartsWaiting a.sheet.now.measured.size.rows l tried.result.zeros a.bound (middle a.bound) a.course.queue ys)
+    (sym (c.places_of-places.ensures))
+    (to_part (sheet_in a.sheet.now) a.terms a.column a.scratch.now a.course a.bound start.requires ys tried.result tried.ensures)
 
 pub returns : goal.returns
 returns c =
@@ -54,24 +54,24 @@ returns c =
     let a = start.args in
     let tried = c.try_and_keep-tried in
     let ys : List ℕ = tried.new.scratch in
-    let call = c.next_queue-waiting in
+    let call = c.next_queue-queue in
     let zs : List ℕ = call.new.scratch in
-    let next = c.improved-next.ensures in
-    let places = c.places_of-places.ensures a.values.now a.codes.now a.order.now in
+    let next = c.improved-standing.ensures in
+    let places = c.places_of-places.ensures in
     let reach = c.reach_of-reach.ensures ∙ ap (λ (z : Standing). reach_of a.terms tried.result.tree.error z.error) next in
     let over = c.ends_column-over.ensures in
-    let attempted = tried.ensures a.counts.now in
+    let attempted = tried.ensures in
     let queued = call.ensures in
-    let s : Sheet = sheet_of a.size a.values.now a.codes.now a.order.now a.cuts.now a.counts.now in
+    let s : Sheet = sheet_in a.sheet.now in
     let waiting = queued.contents_are ∙ (λ k. pick (over k) []
-    (contents (ring_of a.size.rows ys) a.course.queue
+    (contents (ring_of a.sheet.now.measured.size.rows ys) a.course.queue
     ++ parts_queued (places k) (reach k).gap (reach k).small tried.result.zeros (reach k).excess (middle a.bound) a.bound)) in
     record {
       matches = λ p state matches.
           subst (λ (z : Standing). Matches s a.terms a.column p zs (record { standing = z; zeros = tried.result.zeros; queue = call.result })
           (try_cut (searched_column s a.terms a.column) a.terms.bound state state.queue a.bound)) (sym next)
           (matches_next s a.terms a.column p a.scratch.now ys zs a.course state a.bound tried.result call.result start.requires.enough
-          (middle_row a.size a.values.now a.codes.now a.order.now a.cuts.now a.counts.now a.terms a.column a.scratch.now a.course a.bound start.requires)
+          (middle_row (sheet_in a.sheet.now) a.terms a.column a.scratch.now a.course a.bound start.requires)
           matches attempted queued.table_is waiting queued.sane);
-      kept = kept_then a.size.rows a.scratch.now ys zs attempted.lent.kept queued.kept;
+      kept = kept_then a.sheet.now.measured.size.rows a.scratch.now ys zs attempted.lent.kept queued.kept;
     }

@@ -13,13 +13,14 @@ unfolding marks_of
 returns c =
     let start = c in
     let a = start.args in
+    let l = a.sheet.now in
     let xs : List ℕ = a.scratch.now in
     let call = c.mark_sides in
     let marks : List ℕ = call.new.marks in
-    let place : ℕ = get_or a.cuts.now (a.column * a.size.rows + a.cut) 0 in
-    let marked : MarkedTo a.size a.order.now a.column place marks a.size.rows =
-    subst (λ (n : ℕ). MarkedTo a.size a.order.now a.column n marks a.size.rows) c.wide_entry-place.ensures.0 call.ensures.marked in record {
-      became = marks_put a.size.rows xs marks start.requires.enough call.ensures.marks_len;
-      marked = subst (λ (m : List ℕ). MarkedTo a.size a.order.now a.column place m a.size.rows)
-          (sym (marks_there a.size.rows xs marks start.requires.enough call.ensures.marks_len)) marked;
+    let place : ℕ = get_or l.cuts.now (a.column * l.measured.size.rows + a.cut) 0 in
+    let marked : MarkedTo l.measured.size l.order.now a.column place marks l.measured.size.rows =
+    subst (λ (n : ℕ). MarkedTo l.measured.size l.order.now a.column n marks l.measured.size.rows) c.from-place.ensures call.ensures.marked in record {
+      became = marks_put l.measured.size.rows xs marks start.requires.enough call.ensures.marks_len;
+      marked = subst (λ (m : List ℕ). MarkedTo l.measured.size l.order.now a.column place m l.measured.size.rows)
+          (sym (marks_there l.measured.size.rows xs marks start.requires.enough call.ensures.marks_len)) marked;
     }

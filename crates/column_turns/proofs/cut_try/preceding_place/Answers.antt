@@ -10,4 +10,4 @@ returns-then-cut-eq0 c = before_first _ _ _ c.if-cut-eq0.true
 pub returns : goal.returns
 returns c =
     let a = c.args in
-    c.wide_entry.ensures.0 ∙ before_next a.cuts.now a.base a.cut (omega arith)
+    c.from.ensures ∙ before_next a.cuts.now a.base a.cut (omega arith)

@@ -16,13 +16,13 @@ pub root_question-question-requires : goal.root_question-question-requires
 root_question-question-requires c =
     let start = c in
     let a = start.args in
-    tried_cutting a.size a.values.now a.codes.now a.order.now a.cuts.now a.column a.cut a.scratch.now start.requires
+    tried_cutting a.sheet.now a.column a.cut a.scratch.now start.requires
 
 pub mark_cut-requires : goal.mark_cut-requires
 mark_cut-requires c =
     let start = c in
     let a = start.args in
-    tried_marking a.size a.values.now a.codes.now a.order.now a.cuts.now a.column a.cut a.scratch.now start.requires
+    tried_marking a.sheet.now a.column a.cut a.scratch.now start.requires
 
 pub scan_sides-sides-requires : goal.scan_sides-sides-requires
 scan_sides-sides-requires c =
@@ -30,8 +30,8 @@ scan_sides-sides-requires c =
     let a = start.args in
     let marked = c.mark_cut in
     let words : List ℕ = marked.new.scratch in
-    let enough = kept_enough a.size.rows a.scratch.now words start.requires.enough marked.ensures.became.kept in
-    (enough, tried_scannable a.size a.values.now a.codes.now a.order.now a.cuts.now a.column a.cut a.scratch.now start.requires (marks_of a.size.rows words) (marks_length a.size.rows words enough) marked.ensures.marked)
+    let enough = kept_enough a.sheet.now.measured.size.rows a.scratch.now words start.requires.enough marked.ensures.became.kept in
+    (enough, tried_scannable a.sheet.now a.column a.cut a.scratch.now start.requires (marks_of a.sheet.now.measured.size.rows words) (marks_length a.sheet.now.measured.size.rows words enough) marked.ensures.marked)
 
 pub side_error-requires : goal.side_error-requires
 side_error-requires c =
@@ -39,8 +39,8 @@ side_error-requires c =
     let a = start.args in
     let marked = c.mark_cut in
     let words : List ℕ = marked.new.scratch in
-    let sides = c.scan_sides-sides.ensures ∙ tried_sides a.size a.values.now a.codes.now a.order.now a.cuts.now a.column a.cut a.scratch.now start.requires start.requires.counts a.support (marks_of a.size.rows words) marked.ensures.marked in
-    let few = tried_few a.size a.values.now a.codes.now a.order.now a.cuts.now a.column a.cut a.scratch.now start.requires a.support in
+    let sides = c.scan_sides-sides.ensures ∙ tried_sides a.sheet.now a.column a.cut a.scratch.now start.requires a.support (marks_of a.sheet.now.measured.size.rows words) marked.ensures.marked in
+    let few = tried_few a.sheet.now a.column a.cut a.scratch.now start.requires a.support in
     omega (arith, few, ap (λ (z : Sides). side_error z.left) sides, start.requires.enough.few)
 
 pub side_error-requires-2 : goal.side_error-requires-2
@@ -49,8 +49,8 @@ side_error-requires-2 c =
     let a = start.args in
     let marked = c.mark_cut in
     let words : List ℕ = marked.new.scratch in
-    let sides = c.scan_sides-sides.ensures ∙ tried_sides a.size a.values.now a.codes.now a.order.now a.cuts.now a.column a.cut a.scratch.now start.requires start.requires.counts a.support (marks_of a.size.rows words) marked.ensures.marked in
-    let few = tried_few a.size a.values.now a.codes.now a.order.now a.cuts.now a.column a.cut a.scratch.now start.requires a.support in
+    let sides = c.scan_sides-sides.ensures ∙ tried_sides a.sheet.now a.column a.cut a.scratch.now start.requires a.support (marks_of a.sheet.now.measured.size.rows words) marked.ensures.marked in
+    let few = tried_few a.sheet.now a.column a.cut a.scratch.now start.requires a.support in
     omega (arith, few, ap (λ (z : Sides). side_error z.right) sides, start.requires.enough.few)
 
 pub overflow_add-error : goal.overflow_add-error
@@ -59,8 +59,8 @@ overflow_add-error c =
     let a = start.args in
     let marked = c.mark_cut in
     let words : List ℕ = marked.new.scratch in
-    let sides = c.scan_sides-sides.ensures ∙ tried_sides a.size a.values.now a.codes.now a.order.now a.cuts.now a.column a.cut a.scratch.now start.requires start.requires.counts a.support (marks_of a.size.rows words) marked.ensures.marked in
-    let few = tried_few a.size a.values.now a.codes.now a.order.now a.cuts.now a.column a.cut a.scratch.now start.requires a.support in
+    let sides = c.scan_sides-sides.ensures ∙ tried_sides a.sheet.now a.column a.cut a.scratch.now start.requires a.support (marks_of a.sheet.now.measured.size.rows words) marked.ensures.marked in
+    let few = tried_few a.sheet.now a.column a.cut a.scratch.now start.requires a.support in
     record {
       fits =
           omega (
@@ -80,12 +80,10 @@ returns c =
     let start = c in
     let a = start.args in
     let marked = c.mark_cut in
-    let words : List ℕ = marked.new.scratch in (
-      (λ counts.
-          let sides = c.scan_sides-sides.ensures ∙ tried_sides a.size a.values.now a.codes.now a.order.now a.cuts.now a.column a.cut a.scratch.now start.requires counts a.support (marks_of a.size.rows words) marked.ensures.marked in
-          let left = c.side_error.ensures ∙ ap (λ (z : Sides). side_error z.left) sides in
-          let right = c.side_error-2.ensures ∙ ap (λ (z : Sides). side_error z.right) sides in
-          let question = c.root_question-question.ensures a.codes.now counts in
-          λ t. record { question = question t; left = (sides t).left; right = (sides t).right; error = left t + right t }),
+    let words : List ℕ = marked.new.scratch in
+    let sides = c.scan_sides-sides.ensures ∙ tried_sides a.sheet.now a.column a.cut a.scratch.now start.requires a.support (marks_of a.sheet.now.measured.size.rows words) marked.ensures.marked in
+    let left = c.side_error.ensures ∙ ap (λ (z : Sides). side_error z.left) sides in
+    let right = c.side_error-2.ensures ∙ ap (λ (z : Sides). side_error z.right) sides in (
+      (λ t. record { question = c.root_question-question.ensures t; left = (sides t).left; right = (sides t).right; error = left t + right t }),
       marked.ensures.became,
     )

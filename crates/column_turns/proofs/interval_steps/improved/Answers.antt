@@ -5,8 +5,8 @@ use native.Mathlib.Omega.{arith}
 use lib.Dec.{lt→ltb, ltb}
 use Rattle.basics.specs.Choice.{pick}
 use Rattle.basics.proofs.Choice.{pick_true, pick_false, nltb}
-use Rattle.column_turns.specs.declared.interval_steps.Held.{Held}
-use Rattle.column_turns.specs.declared.interval_steps.Held.TheVariants.{Rule}
+use Rattle.std.specs.Prelude.{Option, Some}
+use Rattle.tree.specs.declared.Tree.{Tree}
 use Rattle.column_turns.specs.Steps.{improved_by}
 use Rattle.column_turns.proofs.interval_steps.improved.Goals as goal
 
@@ -15,8 +15,8 @@ unfolding improved_by
 returns-then-tree-standing c =
     let a = c.args in
     let e : a.tree.error ≡ min a.tree.error a.standing.error = omega arith in
-    let h : ◌≡◌ {A = Held} (Rule a.tree) (pick (ltb a.tree.error a.standing.error) (Rule a.tree) a.standing.held) =
-    sym (pick_true (ltb a.tree.error a.standing.error) (Rule a.tree) a.standing.held (lt→ltb _ _ c.if-tree-standing.true)) in
+    let h : ◌≡◌ {A = Option Tree} (Some a.tree) (pick (ltb a.tree.error a.standing.error) (Some a.tree) a.standing.held) =
+    sym (pick_true (ltb a.tree.error a.standing.error) (Some a.tree) a.standing.held (lt→ltb _ _ c.if-tree-standing.true)) in
     λ t. record { error = e t; tried = a.standing.tried + 1; held = h t }
 
 pub returns : goal.returns
@@ -24,6 +24,6 @@ unfolding improved_by
 returns c =
     let a = c.args in
     let e : a.standing.error ≡ min a.tree.error a.standing.error = omega arith in
-    let h : a.standing.held ≡ pick (ltb a.tree.error a.standing.error) (Rule a.tree) a.standing.held =
-    sym (pick_false (ltb a.tree.error a.standing.error) (Rule a.tree) a.standing.held (nltb _ _ c.if-tree-standing.false)) in
+    let h : a.standing.held ≡ pick (ltb a.tree.error a.standing.error) (Some a.tree) a.standing.held =
+    sym (pick_false (ltb a.tree.error a.standing.error) (Some a.tree) a.standing.held (nltb _ _ c.if-tree-standing.false)) in
     λ t. record { error = e t; tried = a.standing.tried + 1; held = h t }
