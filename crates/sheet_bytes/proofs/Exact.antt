@@ -3,7 +3,7 @@ use mathlib.Core.Path.{◌≡◌, refl, sym, ap, ◌∙◌, subst}
 use Prim.Native.Nat.{ℕ, zero, suc, ◌+◌, ◌-◌, ◌*◌, ◌/◌, ◌%◌, ◌^◌, ◌≤◌, ◌<◌}
 use native.Mathlib.Omega.{arith}
 use native.Mathlib.Nat.{add-zero, add_assoc, div-add-mod', mod-lt, div-lt_iff_lt-mul, pow-suc}
-use mathlib.Core.Bool.{Bool, true, false, not}
+use mathlib.Core.Bool.{not}
 use mathlib.Core.List.{List, [], ◌∷◌, ◌++◌}
 use lib.ListN.{length, get_or, get_or-append}
 use lib.Seq.{ext_get_or}
@@ -21,13 +21,9 @@ use Rattle.sheet_bytes.specs.Reading.{SmallHead}
 use Rattle.sheet_bytes.specs.Laws.{Accepted}
 use Rattle.sheet_bytes.specs.Encode.{bytes_of, in_turn, head_bytes, row_bytes, encode_of, Exact}
 use Rattle.sheet_bytes.proofs.Numbers.{number_within}
-use Rattle.sheet_bytes.proofs.Stages.{accepted, small_accepted, valued_accepted}
+use Rattle.sheet_bytes.proofs.Stages.{twice_not, accepted, small_accepted, valued_accepted}
 use Rattle.sheet_bytes.proofs.Places.{head_long, all_long, in_row, cell}
 use Rattle.sheet_bytes.proofs.Turns.{length_bytes, get_d_turn}
-
-twice_not : (b : Bool) → T (not (not b)) → T b
-twice_not true t = tt
-twice_not false t = absurd t
 
 -- ---- a run of bytes, and the number that they say
 
@@ -91,26 +87,26 @@ module _ (bytes : List ℕ) (small : (at : ℕ) → get_or bytes at 0 < 256) whe
     unfolding head_bad
     head_marked = twice_not (marked head_mark bytes 0) (nor_right (ltb (length bytes) head_size) (not (marked head_mark bytes 0)) a.head_good)
 
-    row_marked : (row : ℕ) → row < h.rows → T (marked row_mark bytes (row_start h.columns row))
+    row_marked : (row : ℕ) → row < h.size.rows → T (marked row_mark bytes (row_start h.size.columns row))
     unfolding row_bad
     row_marked row r =
-        twice_not (marked row_mark bytes (row_start h.columns row))
-        (nor_right (ltb (length bytes) (row_start h.columns (suc row))) (not (marked row_mark bytes (row_start h.columns row))) (a.rows_good row r))
+        twice_not (marked row_mark bytes (row_start h.size.columns row))
+        (nor_right (ltb (length bytes) (row_start h.size.columns (suc row))) (not (marked row_mark bytes (row_start h.size.columns row))) (a.rows_good row r))
 
     -- ---- as many bytes as the header says
 
-    reaches : (row : ℕ) → row < h.rows → row_start h.columns (suc row) ≤ length bytes
+    reaches : (row : ℕ) → row < h.size.rows → row_start h.size.columns (suc row) ≤ length bytes
     unfolding row_bad
     reaches row r =
-        nltb→le (length bytes) (row_start h.columns (suc row))
-        (nor_left (ltb (length bytes) (row_start h.columns (suc row))) (not (marked row_mark bytes (row_start h.columns row))) (a.rows_good row r))
+        nltb→le (length bytes) (row_start h.size.columns (suc row))
+        (nor_left (ltb (length bytes) (row_start h.size.columns (suc row))) (not (marked row_mark bytes (row_start h.size.columns row))) (a.rows_good row r))
 
-    all_there : length bytes ≡ row_start h.columns h.rows
+    all_there : length bytes ≡ row_start h.size.columns h.size.rows
     unfolding further
     all_there =
-        let last : suc (h.rows - 1) ≡ h.rows = omega (arith, fair.rows_some) in
-        let low : row_start h.columns h.rows ≤ length bytes = subst (λ (k : ℕ). row_start h.columns k ≤ length bytes) last (reaches (h.rows - 1) (omega (arith, fair.rows_some))) in
-        omega (arith, nltb→le (row_start h.columns h.rows) (length bytes) a.no_more)
+        let last : suc (h.size.rows - 1) ≡ h.size.rows = omega (arith, fair.rows_some) in
+        let low : row_start h.size.columns h.size.rows ≤ length bytes = subst (λ (k : ℕ). row_start h.size.columns k ≤ length bytes) last (reaches (h.size.rows - 1) (omega (arith, fair.rows_some))) in
+        omega (arith, nltb→le (row_start h.size.columns h.size.rows) (length bytes) a.no_more)
 
     -- ---- the header
 
@@ -125,46 +121,46 @@ module _ (bytes : List ℕ) (small : (at : ℕ) → get_or bytes at 0 < 256) whe
     in_header : (at : ℕ) → at < head_size → get_or back at 0 ≡ get_or bytes at 0
     unfolding encode_of
     in_header at k =
-        get_or-append (head_bytes h) (in_turn (row_bytes h (values_of bytes h) (codes_of bytes h)) h.rows) 0 at (omega (arith, head_long h (values_of bytes h) (codes_of bytes h)))
+        get_or-append (head_bytes h) (in_turn (row_bytes h (values_of bytes h) (codes_of bytes h)) h.size.rows) 0 at (omega (arith, head_long h (values_of bytes h) (codes_of bytes h)))
         ∙ ap (λ (l : List ℕ). get_or l at 0) header
         ∙ get_d_run 20 bytes 0 at k
         ∙ ap (byte_at bytes) (omega arith)
 
     -- ---- a row
 
-    cell_back : (row column j : ℕ) → row < h.rows → column < h.columns → j < 8
-        → get_or (cell h (values_of bytes h) (codes_of bytes h) row column) j 0 ≡ byte_at bytes (row_start h.columns row + 3 + 8 * column + j)
+    cell_back : (row column j : ℕ) → row < h.size.rows → column < h.size.columns → j < 8
+        → get_or (cell h (values_of bytes h) (codes_of bytes h) row column) j 0 ≡ byte_at bytes (row_start h.size.columns row + 3 + 8 * column + j)
     unfolding values_of value_read bits_of cell_at
     cell_back row column j r k g =
-        let i = column * h.rows + row in
-        let at = row_start h.columns row + 3 + 8 * column in
+        let i = column * h.size.rows + row in
+        let at = row_start h.size.columns row + 3 + 8 * column in
         let inside : i < head_cells h = digits_lt k r in
         let e : number_at 8 bytes (cell_at h i) ≡ number_at 8 bytes at =
-        ap (λ (x : ℕ). number_at 8 bytes (row_start h.columns x + 3 + 8 * (i / h.rows))) (digits_mod column r)
-        ∙ ap (λ (x : ℕ). number_at 8 bytes (row_start h.columns row + 3 + 8 * x)) (digits_div column r) in
+        ap (λ (x : ℕ). number_at 8 bytes (row_start h.size.columns x + 3 + 8 * (i / h.size.rows))) (digits_mod column r)
+        ∙ ap (λ (x : ℕ). number_at 8 bytes (row_start h.size.columns row + 3 + 8 * x)) (digits_div column r) in
         let number : T (not (is_nan (of_bits binary64 (number_at 8 bytes (cell_at h i))))) = number_within (of_bits binary64 (number_at 8 bytes (cell_at h i))) (valued_accepted bytes h a i inside) in
         ap (λ (x : Float). get_or (bytes_of 8 (to_bits binary64 x)) j 0) (get_d_table (value_read bytes h) (head_cells h) i nan inside)
         ∙ ap (λ (n : ℕ). get_or (bytes_of 8 n) j 0) (to_bits-of_bits binary64 (number_at 8 bytes (cell_at h i)) (below 8 (cell_at h i)) number ∙ e)
         ∙ ap (λ (l : List ℕ). get_or l j 0) (run_back 8 at)
         ∙ get_d_run 8 bytes at j g
 
-    in_a_row : (row j : ℕ) → row < h.rows → j < row_size h.columns → get_or (row_bytes h (values_of bytes h) (codes_of bytes h) row) j 0 ≡ byte_at bytes (row_start h.columns row + j)
+    in_a_row : (row j : ℕ) → row < h.size.rows → j < row_size h.size.columns → get_or (row_bytes h (values_of bytes h) (codes_of bytes h) row) j 0 ≡ byte_at bytes (row_start h.size.columns row + j)
     unfolding row_bytes marked codes_of code_of
     in_a_row row zero r k =
-        let at = row_start h.columns row in
+        let at = row_start h.size.columns row in
         sym (ap (byte_at bytes) (add-zero at) ∙ eqb→eq (byte_at bytes at) 82 (and_left (eqb (byte_at bytes at) 82) (eqb (byte_at bytes (at + 1)) 87) (row_marked row r)))
     in_a_row row (suc zero) r k =
-        let at = row_start h.columns row in
+        let at = row_start h.size.columns row in
         sym (eqb→eq (byte_at bytes (at + 1)) 87 (and_right (eqb (byte_at bytes at) 82) (eqb (byte_at bytes (at + 1)) 87) (row_marked row r)))
-    in_a_row row (suc (suc zero)) r k = get_d_table (code_of bytes h) h.rows row 0 r
+    in_a_row row (suc (suc zero)) r k = get_d_table (code_of bytes h) h.size.rows row 0 r
     in_a_row row (suc (suc (suc m))) r k =
         let f = cell h (values_of bytes h) (codes_of bytes h) row in
         let e : m / 8 * 8 + m % 8 ≡ m = div-add-mod' m 8 in
-        let below_columns : m / 8 < h.columns = omega arith in
+        let below_columns : m / 8 < h.size.columns = omega arith in
         let in_eight : m % 8 < 8 = omega arith in
-        let place : row_start h.columns row + 3 + 8 * (m / 8) + m % 8 ≡ row_start h.columns row + suc (suc (suc m)) = omega arith in
-        ap (λ (x : ℕ). get_or (in_turn f h.columns) x 0) (sym e)
-        ∙ get_d_turn 8 f h.columns (λ c. length_bytes 8 (to_bits binary64 (get_or (values_of bytes h) (c * h.rows + row) nan))) (m / 8) (m % 8) below_columns in_eight
+        let place : row_start h.size.columns row + 3 + 8 * (m / 8) + m % 8 ≡ row_start h.size.columns row + suc (suc (suc m)) = omega arith in
+        ap (λ (x : ℕ). get_or (in_turn f h.size.columns) x 0) (sym e)
+        ∙ get_d_turn 8 f h.size.columns (λ c. length_bytes 8 (to_bits binary64 (get_or (values_of bytes h) (c * h.size.rows + row) nan))) (m / 8) (m % 8) below_columns in_eight
         ∙ cell_back row (m / 8) (m % 8) r below_columns in_eight
         ∙ ap (byte_at bytes) place
 
@@ -173,14 +169,14 @@ module _ (bytes : List ℕ) (small : (at : ℕ) → get_or bytes at 0 < 256) whe
     past : (at : ℕ) → head_size ≤ at → at < length bytes → get_or back at 0 ≡ get_or bytes at 0
     unfolding row_start
     past at k l =
-        let size = row_size h.columns in
+        let size = row_size h.size.columns in
         let q = at - head_size in
         let row = q / size in
         let some : 0 < size = omega arith in
         let split : row * size + q % size ≡ q = div-add-mod' q size in
-        let place : row_start h.columns row + q % size ≡ at = add_assoc head_size (row * size) (q % size) ∙ ap (λ (x : ℕ). head_size + x) split ∙ omega arith in
-        let inside : q < h.rows * size = omega (arith, all_there) in
-        let r : row < h.rows = (div-lt_iff_lt-mul some).1 inside in
+        let place : row_start h.size.columns row + q % size ≡ at = add_assoc head_size (row * size) (q % size) ∙ ap (λ (x : ℕ). head_size + x) split ∙ omega arith in
+        let inside : q < h.size.rows * size = omega (arith, all_there) in
+        let r : row < h.size.rows = (div-lt_iff_lt-mul some).1 inside in
         ap (λ (x : ℕ). get_or back x 0) (sym place)
         ∙ in_row h (values_of bytes h) (codes_of bytes h) row (q % size) r (mod-lt q some)
         ∙ in_a_row row (q % size) r (mod-lt q some)

@@ -1,6 +1,5 @@
 -- Laws that the functions' proofs cite.
 pub mod Numbers
-pub mod Find
 pub mod Stores
 pub mod Stages
 pub mod Turns

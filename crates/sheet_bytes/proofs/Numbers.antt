@@ -1,50 +1,65 @@
--- A number of bytes grows by one at a time; where a cell stands; a NaN by its bits. Assumes nothing.
+-- A number by its bytes; two bytes as a mark; where a cell stands; a NaN by its bits. Assumes nothing.
 use mathlib.Core.Path.{◌≡◌, refl, sym, ap, ◌∙◌, subst}
-use Prim.Native.Nat.{ℕ, suc, ◌+◌, ◌-◌, ◌*◌, ◌/◌, ◌%◌, ◌^◌, ◌≤◌, ◌<◌}
+use Prim.Native.Nat.{ℕ, suc, ◌+◌, ◌*◌, ◌/◌, ◌%◌, ◌≤◌, ◌<◌}
 use native.Mathlib.Omega.{arith}
 use native.Mathlib.Nat.{mod-lt, div-lt_iff_lt-mul}
-use mathlib.Core.Bool.{Bool, true, false, not, ◌&&◌, ◌||◌}
-use mathlib.Core.List.{List}
-use lib.Pow.{pow-add, pow_mono}
-use lib.Dec.{T, ltb, lt→ltb, not_T, ltb→lt}
+use mathlib.Core.Bool.{Bool, true, false, not, ◌&&◌}
+use mathlib.Core.List.{List, [], ◌∷◌}
+use lib.ListN.{length, get_or, take, drop}
+use lib.Seq.{drop-cons}
+use lib.Pointwise.{pointwise}
+use native.Mathlib.Numerals.{add-one}
+use Rattle.std.specs.Int.{w16, w32, w64, from_le_bytes}
+use lib.Dec.{T, ltb, eqb, lt→ltb, not_T, ltb→lt}
 use lib.Ieee.{Float, nan, inf, fin, binary64, of_bits, nan_bits, is_nan, lt, eq, le}
 use lib.Ieee.Bits.{nan_bits_is, nan_bits_above}
 use Rattle.threshold.specs.Threshold.{within}
 use Rattle.sheet_bytes.specs.declared.Head.{Head}
-use Rattle.sheet_bytes.specs.Bytes.{byte_at, number_at}
+use Rattle.sheet_bytes.specs.Read.{row_start}
+use Rattle.sheet_bytes.specs.Bytes.{byte_at, number_at, marked}
 
--- ---- one byte more, below those read
+-- ---- the bytes from a place on, as a number
 
-module _ (bytes : List ℕ) (at l width : ℕ) (some : 0 < l) (inside : l ≤ width) where
-  pub number_more : byte_at bytes (at + (l - 1)) + 256 * number_at (width - l) bytes (at + l) ≡ number_at (width - (l - 1)) bytes (at + (l - 1))
+module _ (bytes : List ℕ) (at : ℕ) (xs : List ℕ) where
+  abbrev Read : ℕ → Type 0
+  Read n = (i : ℕ) → i < n → get_or xs i 0 ≡ byte_at bytes (at + i)
+
+  nth : {n : ℕ} → Read n → (i k : ℕ) → i < n → at + i ≡ k → get_or xs i 0 ≡ byte_at bytes k
+  nth read i k h e = read i h ∙ ap (byte_at bytes) e
+
+  pub number_2 : Read 2 → from_le_bytes w16 xs ≡ number_at 2 bytes at
   unfolding number_at
-  number_more =
-      let e : suc (width - l) ≡ width - (l - 1) = omega arith in
-      let f : at + l ≡ suc (at + (l - 1)) = omega arith in
-      ap (λ k. byte_at bytes (at + (l - 1)) + 256 * number_at (width - l) bytes k) f ∙ ap (λ w. number_at w bytes (at + (l - 1))) e
+  number_2 read = omega (arith, nth read 0 at (omega arith) (omega arith), nth read 1 (suc at) (omega arith) (omega arith))
 
-  pub number_wide : (n b : ℕ) → n < 2 ^ (8 * (width - l)) → b < 256 → b + 256 * n < 2 ^ (8 * (width - (l - 1)))
-  number_wide n b h g =
-      let e : 8 * (width - (l - 1)) ≡ 8 + 8 * (width - l) = omega arith in
-      omega (arith, ap (λ k. 2 ^ k) e ∙ pow-add 2 8 (8 * (width - l)))
+  pub number_4 : Read 4 → from_le_bytes w32 xs ≡ number_at 4 bytes at
+  unfolding number_at
+  number_4 read =
+      omega (
+        arith,
+        nth read 0 at (omega arith) (omega arith),
+        nth read 1 (suc at) (omega arith) (omega arith),
+        nth read 2 (suc (suc at)) (omega arith) (omega arith),
+        nth read 3 (suc (suc (suc at))) (omega arith) (omega arith),
+      )
 
--- fewer than eight bytes leave room for one more
-pub number_room : (n k : ℕ) → n < 2 ^ (8 * k) → k < 8 → n < 2 ^ 56
-number_room n k h g = omega (arith, pow_mono {i = 8 * k} {j = 56} (omega arith))
+  pub number_8 : Read 8 → from_le_bytes w64 xs ≡ number_at 8 bytes at
+  unfolding number_at
+  number_8 read =
+      omega (
+        arith,
+        nth read 0 at (omega arith) (omega arith),
+        nth read 1 (suc at) (omega arith) (omega arith),
+        nth read 2 (suc (suc at)) (omega arith) (omega arith),
+        nth read 3 (suc (suc (suc at))) (omega arith) (omega arith),
+        nth read 4 (suc (suc (suc (suc at)))) (omega arith) (omega arith),
+        nth read 5 (suc (suc (suc (suc (suc at))))) (omega arith) (omega arith),
+        nth read 6 (suc (suc (suc (suc (suc (suc at)))))) (omega arith) (omega arith),
+        nth read 7 (suc (suc (suc (suc (suc (suc (suc at))))))) (omega arith) (omega arith),
+      )
 
--- ---- tests joined, as an `if` makes them
-
-pub or_yes : (a b : Bool) → a ≡ true → (a || b) ≡ true
-or_yes a b e = ap (λ (t : Bool). t || b) e
-
-pub or_no : (a b : Bool) → a ≡ false → (a || b) ≡ b
-or_no a b e = ap (λ (t : Bool). t || b) e
-
-pub and_yes : (a b : Bool) → a ≡ true → (a && b) ≡ b
-and_yes a b e = ap (λ (t : Bool). t && b) e
-
-pub and_no : (a b : Bool) → a ≡ false → (a && b) ≡ false
-and_no a b e = ap (λ (t : Bool). t && b) e
+pub number_1 : (bytes : List ℕ) (at : ℕ) → byte_at bytes at ≡ number_at 1 bytes at
+unfolding number_at
+number_1 bytes at = omega arith
 
 -- ---- products and places
 
@@ -85,8 +100,32 @@ within_number bits t = subst (λ (b : Bool). T (not b)) (sym (nan_bits_is binary
 
 abbrev made : ℕ → ℕ → ℕ → ℕ → ℕ → ℕ → ℕ → Head
 made rows columns labels support gap error bound =
-    record { rows = rows; columns = columns; labels = labels; support = support; gap = gap; error = error; bound = bound }
+    record { size = record { rows = rows; columns = columns; labels = labels }; terms = record { support = support; gap = gap; error = error; bound = bound } }
 
 pub seven : {a a' b b' c c' d d' e e' f f' g g' : ℕ} → a ≡ a' → b ≡ b' → c ≡ c' → d ≡ d' → e ≡ e' → f ≡ f' → g ≡ g'
     → made a b c d e f g ≡ made a' b' c' d' e' f' g'
 seven p q r s t u v = cc
+
+-- ---- two bytes of a list
+
+pub two_marked : (bytes mark : List ℕ) (at n : ℕ) → n ≡ 2 → at + 2 ≤ length bytes → length mark ≡ 2
+    → pointwise eqb (take n (drop at bytes)) mark ≡ marked (record { first = get_or mark 0 0; second = get_or mark 1 0 }) bytes at
+unfolding marked
+two_marked bytes [] at n e h k = absurd (omega arith)
+two_marked bytes (x ∷ []) at n e h k = absurd (omega arith)
+two_marked bytes (x ∷ y ∷ z ∷ zs) at n e h k = absurd (omega arith)
+two_marked bytes (x ∷ y ∷ []) at n e h k =
+    ap (λ (m : ℕ). pointwise eqb (take m (drop at bytes)) (x ∷ y ∷ [])) e
+    ∙ ap (λ (l : List ℕ). pointwise eqb (take 2 l) (x ∷ y ∷ []))
+    (drop-cons bytes at 0 (omega arith) ∙ ap (λ (l : List ℕ). get_or bytes at 0 ∷ l) (drop-cons bytes (suc at) 0 (omega arith)))
+    ∙ both (eqb (get_or bytes at 0) x) (eqb (get_or bytes (suc at) 0) y) (eqb (get_or bytes (at + 1) 0) y) (ap (λ (k : ℕ). eqb (get_or bytes k 0) y) (sym (add-one at)))
+  where
+    both : (a b b' : Bool) → b ≡ b' → (a && (b && true)) ≡ (a && b')
+    both a true b' f = ap (λ t. a && t) f
+    both a false b' f = ap (λ t. a && t) f
+
+-- ---- a row is longer than its mark
+
+pub starts_apart : (columns row : ℕ) → row_start columns row + 2 ≤ row_start columns (row + 1)
+unfolding row_start
+starts_apart columns row = omega arith

@@ -29,31 +29,31 @@ module _ (h : Head) (values : List Float) (codes : List ℕ) where
   -- ---- the rows
 
   abbrev pub cell : ℕ → ℕ → List ℕ
-  cell row column = bytes_of 8 (to_bits binary64 (get_or values (column * h.rows + row) nan))
+  cell row column = bytes_of 8 (to_bits binary64 (get_or values (column * h.size.rows + row) nan))
 
-  pub row_long : (row : ℕ) → length (row_bytes h values codes row) ≡ row_size h.columns
+  pub row_long : (row : ℕ) → length (row_bytes h values codes row) ≡ row_size h.size.columns
   unfolding row_bytes
-  row_long row = omega (arith, length_turn 8 (cell row) h.columns (λ k. length_bytes 8 (to_bits binary64 (get_or values (k * h.rows + row) nan))))
+  row_long row = omega (arith, length_turn 8 (cell row) h.size.columns (λ k. length_bytes 8 (to_bits binary64 (get_or values (k * h.size.rows + row) nan))))
 
-  pub all_long : length bytes ≡ row_start h.columns h.rows
+  pub all_long : length bytes ≡ row_start h.size.columns h.size.rows
   unfolding encode_of row_start
   all_long =
-      length-append (head_bytes h) (in_turn (row_bytes h values codes) h.rows)
-      ∙ ap (λ (n : ℕ). n + length (in_turn (row_bytes h values codes) h.rows)) head_long
-      ∙ ap (λ (n : ℕ). head_size + n) (length_turn (row_size h.columns) (row_bytes h values codes) h.rows row_long)
+      length-append (head_bytes h) (in_turn (row_bytes h values codes) h.size.rows)
+      ∙ ap (λ (n : ℕ). n + length (in_turn (row_bytes h values codes) h.size.rows)) head_long
+      ∙ ap (λ (n : ℕ). head_size + n) (length_turn (row_size h.size.columns) (row_bytes h values codes) h.size.rows row_long)
 
-  pub in_row : (row j : ℕ) → row < h.rows → j < row_size h.columns → byte_at bytes (row_start h.columns row + j) ≡ get_or (row_bytes h values codes row) j 0
+  pub in_row : (row j : ℕ) → row < h.size.rows → j < row_size h.size.columns → byte_at bytes (row_start h.size.columns row + j) ≡ get_or (row_bytes h values codes row) j 0
   unfolding encode_of row_start
   in_row row j a b =
-      ap (byte_at bytes) (add_assoc head_size (row * row_size h.columns) j ∙ ap (λ (n : ℕ). n + (row * row_size h.columns + j)) (sym head_long))
-      ∙ get_or-append-add (head_bytes h) (in_turn (row_bytes h values codes) h.rows) (row * row_size h.columns + j) 0
-      ∙ get_d_turn (row_size h.columns) (row_bytes h values codes) h.rows row_long row j a b
+      ap (byte_at bytes) (add_assoc head_size (row * row_size h.size.columns) j ∙ ap (λ (n : ℕ). n + (row * row_size h.size.columns + j)) (sym head_long))
+      ∙ get_or-append-add (head_bytes h) (in_turn (row_bytes h values codes) h.size.rows) (row * row_size h.size.columns + j) 0
+      ∙ get_d_turn (row_size h.size.columns) (row_bytes h values codes) h.size.rows row_long row j a b
 
-  pub in_cell : (row column j : ℕ) → row < h.rows → column < h.columns → j < 8
-      → byte_at bytes (row_start h.columns row + 3 + 8 * column + j) ≡ get_or (cell row column) j 0
+  pub in_cell : (row column j : ℕ) → row < h.size.rows → column < h.size.columns → j < 8
+      → byte_at bytes (row_start h.size.columns row + 3 + 8 * column + j) ≡ get_or (cell row column) j 0
   unfolding row_bytes
   in_cell row column j a b g =
-      let e : row_start h.columns row + 3 + 8 * column + j ≡ row_start h.columns row + suc (suc (suc (column * 8 + j))) = omega arith in
+      let e : row_start h.size.columns row + 3 + 8 * column + j ≡ row_start h.size.columns row + suc (suc (suc (column * 8 + j))) = omega arith in
       ap (byte_at bytes) e
       ∙ in_row row (suc (suc (suc (column * 8 + j)))) a (omega arith)
-      ∙ get_d_turn 8 (cell row) h.columns (λ k. length_bytes 8 (to_bits binary64 (get_or values (k * h.rows + row) nan))) column j b g
+      ∙ get_d_turn 8 (cell row) h.size.columns (λ k. length_bytes 8 (to_bits binary64 (get_or values (k * h.size.rows + row) nan))) column j b g

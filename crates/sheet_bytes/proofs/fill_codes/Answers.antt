@@ -14,11 +14,10 @@ loop-row-preserved c =
     let a = c.args in
     let l = c.loop-row in
     let f : ℕ → ℕ = code_of a.bytes.now a.head in (
-      omega arith,
-      simp length-set l.invariant.1,
-      ap (λ (b : ℕ). sets (set l.codes l.row b) (l.row + 1) (drop (l.row + 1) (table f a.head.rows))) c.code_at.ensures
-          ∙ sym (next f a.head.rows l.codes l.row 0 (omega arith))
-          ∙ l.invariant.2,
+      simp length-set l.invariant.0,
+      ap (λ (b : ℕ). sets (set l.codes l.row b) (l.row + 1) (drop (l.row + 1) (table f a.head.size.rows))) c.code_at.ensures
+          ∙ sym (next f a.head.size.rows l.codes l.row 0 (omega arith))
+          ∙ l.invariant.1,
     )
 
 pub returns : goal.returns
@@ -26,4 +25,4 @@ unfolding codes_of
 returns c =
     let a = c.args in
     let l = c.loop-row in
-    sym (none_left (code_of a.bytes.now a.head) a.head.rows l.codes l.row (omega arith) (omega arith)) ∙ l.invariant.2
+    sym (none_left (code_of a.bytes.now a.head) a.head.size.rows l.codes l.row (omega arith) (omega arith)) ∙ l.invariant.1

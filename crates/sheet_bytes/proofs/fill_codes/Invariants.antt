@@ -1,6 +1,5 @@
--- `sheet_bytes::fill_codes` meets its contract. The loop's invariant: storing the codes that are left from here on gives the whole.
+-- Storing the codes that are left from here on gives the whole.
 use mathlib.Core.Path.{◌≡◌}
-use Prim.Native.Nat.{◌-◌, ◌≤◌}
 use lib.ListN.{length, drop}
 use lib.Seq.{sets}
 use Rattle.sheet_bytes.specs.Read.{codes_of}
@@ -8,7 +7,4 @@ use Rattle.sheet_bytes.proofs.fill_codes.Given as goal
 
 abbrev pub invariant-loop-row : goal.invariant-loop-row
 invariant-loop-row l =
-    (l.row ≤ l.head.rows) × (length l.codes ≡ length l.initial.codes) × (sets l.codes l.row (drop l.row (codes_of l.bytes l.head)) ≡ sets l.initial.codes 0 (codes_of l.bytes l.head))
-
-abbrev pub decreases-loop-row : goal.decreases-loop-row
-decreases-loop-row l = l.head.rows - l.row
+    (length l.codes ≡ length l.initial.codes) × (sets l.codes l.row (drop l.row (codes_of l.bytes l.head)) ≡ sets l.initial.codes 0 (codes_of l.bytes l.head))

@@ -1,4 +1,4 @@
-use mathlib.Core.Path.{◌≡◌, sym, ap, ◌∙◌, subst}
+use mathlib.Core.Path.{sym, ap, ◌∙◌, subst}
 use Prim.Native.Nat.{ℕ, ◌+◌}
 use native.Mathlib.Omega.{arith}
 use lib.ListN.{drop, set, length-set}
@@ -7,33 +7,30 @@ use lib.Dec.{T}
 use lib.Seq.{sets}
 use lib.Ieee.{Float, nan, binary64, of_bits, nan_bits}
 use Rattle.basics.specs.Lists.{table}
-use Rattle.sheet_bytes.specs.Bytes.{number_at}
 use Rattle.sheet_bytes.specs.Read.{head_cells, bits_of, value_read, values_of}
 use Rattle.sheet_bytes.proofs.Numbers.{within_number}
 use Rattle.sheet_bytes.proofs.Stores.{next, none_left}
 use Rattle.sheet_bytes.proofs.fill_values.Goals as goal
 
 pub float_from_bits-values : goal.float_from_bits-values
-unfolding value_read bits_of
+unfolding value_read
 float_from_bits-values c =
     let a = c.args in
     let i = c.loop-index.index in
-    let e : c.number_at-bits.result ≡ bits_of a.bytes.now a.head i = c.number_at-bits.ensures.value ∙ ap (number_at 8 a.bytes.now) c.cell_at.ensures.place in
-    subst (λ (b : ℕ). T (not (nan_bits binary64 b))) (sym e) (within_number (bits_of a.bytes.now a.head i) (c.requires.2 i (omega arith)))
+    subst (λ (b : ℕ). T (not (nan_bits binary64 b))) (sym c.bits_at.ensures)
+    (within_number (bits_of a.bytes.now a.head i) (c.requires.2 i (omega arith)))
 
 pub loop-index-preserved : goal.loop-index-preserved
-unfolding values_of value_read bits_of
+unfolding values_of value_read
 loop-index-preserved c =
     let a = c.args in
-    let i = c.loop-index.index in
-    let e : c.number_at-bits.result ≡ bits_of a.bytes.now a.head i = c.number_at-bits.ensures.value ∙ ap (number_at 8 a.bytes.now) c.cell_at.ensures.place in
     let l = c.loop-index in
+    let i = l.index in
     let f : ℕ → Float = value_read a.bytes.now a.head in (
-      omega arith,
-      simp length-set l.invariant.1,
-      ap (λ (b : ℕ). sets (set l.values i (of_bits binary64 b)) (i + 1) (drop (i + 1) (table f (head_cells a.head)))) e
+      simp length-set l.invariant.0,
+      ap (λ (b : ℕ). sets (set l.values i (of_bits binary64 b)) (i + 1) (drop (i + 1) (table f (head_cells a.head)))) c.bits_at.ensures
           ∙ sym (next f (head_cells a.head) l.values i nan (omega arith))
-          ∙ l.invariant.2,
+          ∙ l.invariant.1,
     )
 
 pub returns : goal.returns
@@ -41,4 +38,4 @@ unfolding values_of
 returns c =
     let a = c.args in
     let l = c.loop-index in
-    sym (none_left (value_read a.bytes.now a.head) (head_cells a.head) l.values l.index (omega arith) (omega arith)) ∙ l.invariant.2
+    sym (none_left (value_read a.bytes.now a.head) (head_cells a.head) l.values l.index (omega arith) (omega arith)) ∙ l.invariant.1
