@@ -2,7 +2,6 @@
 -- accepts the judge looks at the tree alone. Assumes nothing.
 use mathlib.Core.Path.{◌≡◌, ◌∙◌}
 use Prim.Native.Nat.{ℕ, ◌<◌}
-use native.Mathlib.Omega.{arith}
 use mathlib.Core.Bool.{Bool, true, false, not, ◌&&◌}
 use lib.ListN.{length}
 use lib.Dec.{T, leb, ltb, eqb, nleb→lt}
@@ -13,14 +12,11 @@ use Rattle.basics.specs.Walk.{walk}
 use Rattle.basics.proofs.Choice.{pick_false, nleb, not_not}
 use Rattle.sheet.specs.Sheet.{Sheet}
 use Rattle.sheet.specs.declared.Terms.{Terms}
-use Rattle.sheet.specs.declared.Checked.{Checked}
-use Rattle.sheet.specs.declared.Checked.TheVariants.{Accepted, Refused}
-use Rattle.sheet.specs.Check.{cells_of, size_holds, lengths_hold, scratch_holds, terms_hold, bad_value, bad_label, reason, content_of, check_of}
+use Rattle.sheet.specs.Check.{cells_of, size_holds, lengths_hold, scratch_holds, terms_hold, bad_value, bad_label, Verdict, reason, content_of, check_of}
 use Rattle.sheet.specs.Reasons.{refused}
 use Rattle.sheet.specs.declared.refusals.Reason.{Reason}
-use Rattle.sheet.specs.declared.refusals.Reason.TheVariants.{SizeOutside, LengthWrong, ValueOutside, LabelHigh, ColumnHigh, LeafHigh, ThresholdEndless}
+use Rattle.sheet.specs.declared.refusals.Reason.TheVariants.{SizeOutside, LengthWrong, ScratchShort, TermAbove, ValueOutside, LabelHigh, ColumnHigh, LeafHigh, ThresholdEndless}
 use Rattle.sheet.specs.declared.refusals.Refusal.{Refusal}
-use Rattle.sheet.specs.Reasons.{size_outside, length_wrong, scratch_short, term_above, value_outside, label_high}
 use Rattle.tree.specs.declared.Side.{Side}
 use Rattle.tree.specs.declared.Tree.{Tree}
 use Rattle.judge.specs.declared.judge_rows.Judgement.{Judgement}
@@ -130,19 +126,21 @@ taken s t h f l r =
 
 -- ---- what the input check accepts, the judge does not turn back for its sheet
 
-check_on : (number place : ℕ) (bad : Bool) (rest : Checked) → pick bad (Refused number place) rest ≡ Accepted → T (not bad) × (rest ≡ Accepted)
+check_on : (why : Reason) (place : ℕ) (bad : Bool) (rest : Verdict) → pick bad (Err (refused why place)) rest ≡ Ok tt
+    → T (not bad) × (rest ≡ Ok tt)
 unfolding pick
-check_on number place true rest e = let z : ◌≡◌ {A = ℕ} 0 1 = cc in absurd (omega arith)
-check_on number place false rest e = (tt, e)
+check_on why place true rest e = absurd cc
+check_on why place false rest e = (tt, e)
 
-whole_on : (number : ℕ) (good : Bool) (rest : Checked) → pick good rest (Refused number 0) ≡ Accepted → T good × (rest ≡ Accepted)
+whole_on : (why : Reason) (good : Bool) (rest : Verdict) → pick good rest (Err (refused why 0)) ≡ Ok tt → T good × (rest ≡ Ok tt)
 unfolding pick
-whole_on number true rest e = (tt, e)
-whole_on number false rest e = let z : ◌≡◌ {A = ℕ} 0 1 = cc in absurd (omega arith)
+whole_on why true rest e = (tt, e)
+whole_on why false rest e = absurd cc
 
-reason_on : (number places : ℕ) (bad : ℕ → Bool) (rest : Checked) → reason number places bad rest ≡ Accepted → T (not (ltb (walk bad places 0) places)) × (rest ≡ Accepted)
+reason_on : (why : Reason) (places : ℕ) (bad : ℕ → Bool) (rest : Verdict) → reason why places bad rest ≡ Ok tt
+    → T (not (ltb (walk bad places 0) places)) × (rest ≡ Ok tt)
 unfolding reason
-reason_on number places bad rest e = check_on number (walk bad places 0) (ltb (walk bad places 0) places) rest e
+reason_on why places bad rest e = check_on why (walk bad places 0) (ltb (walk bad places 0) places) rest e
 
 -- the judge looks at two of the five lengths
 fewer : (a b c d e : Bool) → T (a && b && c && d && e) → T (not (not (a && b)))
@@ -150,15 +148,15 @@ fewer true true c d e h = tt
 fewer true false c d e h = h
 fewer false b c d e h = h
 
-pub same_sheet : (s : Sheet) (t : Terms) (words : ℕ) → check_of s t words ≡ Accepted → (tree : Tree) → judge_of s tree ≡ tree_checked s tree
+pub same_sheet : (s : Sheet) (t : Terms) (words : ℕ) → check_of s t words ≡ Ok tt → (tree : Tree) → judge_of s tree ≡ tree_checked s tree
 unfolding check_of content_of judge_of lengths_hold judged_holds
 same_sheet s t words e tree =
-    let a = whole_on size_outside (size_holds s.rows s.columns s.labels) _ e in
-    let b = whole_on length_wrong (lengths_hold s) _ a.1 in
-    let c = whole_on scratch_short (scratch_holds s words) _ b.1 in
-    let d = whole_on term_above (terms_hold t) _ c.1 in
-    let f = reason_on value_outside (cells_of s) (bad_value s.values) _ d.1 in
-    let g = reason_on label_high s.rows (bad_label s.codes s.labels) _ f.1 in
+    let a = whole_on SizeOutside (size_holds s.rows s.columns s.labels) _ e in
+    let b = whole_on LengthWrong (lengths_hold s) _ a.1 in
+    let c = whole_on ScratchShort (scratch_holds s words) _ b.1 in
+    let d = whole_on TermAbove (terms_hold t) _ c.1 in
+    let f = reason_on ValueOutside (cells_of s) (bad_value s.values) _ d.1 in
+    let g = reason_on LabelHigh s.rows (bad_label s.codes s.labels) _ f.1 in
     goes_on SizeOutside 0 (not (size_holds s.rows s.columns s.labels)) _ (not_not (size_holds s.rows s.columns s.labels) a.0)
     ∙ goes_on LengthWrong 0 (not (judged_holds s)) _
     (fewer (eqb (length s.values) (cells_of s)) (eqb (length s.codes) s.rows) (eqb (length s.order) (cells_of s)) (eqb (length s.cuts) (cells_of s)) (eqb (length s.counts) s.columns) b.0)
