@@ -2,92 +2,65 @@
 #![tactic(auto)]
 
 ghost use Rattle.std.specs.Prelude.{◌≡◌};
-ghost use Rattle.sheet.specs.Check.{sheet_of};
+ghost use Rattle.sheet.specs.Lent.{sheet_in};
 ghost use Rattle.column_turns.specs.Lent.{Enough};
 ghost use Rattle.column_turns.specs.Promise.{Whole};
 ghost use Rattle.depth2.specs.Promise.{SearchedOf};
-ghost use Rattle.depth2.specs.Columns.{none_tried, answer_held, ColumnsSearched};
+ghost use Rattle.depth2.specs.Columns.{answer_held, ColumnsSearched, AllDouble};
 
-use column_turns::interval_steps::{Held, Standing};
-use sheet::{Checked, Size, Terms, WORDS_PER_ROW};
+use column_turns::interval_steps::Standing;
+use sheet::lent::LentSheet;
+use sheet::{Terms, WORDS_PER_ROW};
 use tree::Answer;
 
 // ---- the columns
 
-// The state before the first column.
-fn nothing_tried(error: u32) -> Standing
-    ensures { result ≡ none_tried error }
-{
-    Standing {
-        error,
-        tried: 0,
-        held: Held::Empty,
-    }
-}
-
 // The columns in order. After a column, the search stops if the error is at most the gap.
-fn search_columns(
-    size: Size,
-    terms: Terms,
-    values: &[f64],
-    codes: &[u8],
-    order: &[u16],
-    cuts: &[u16],
-    counts: &[u16],
-    scratch: &mut [u32],
-) -> Standing
-    requires { Whole (sheet_of size values.now codes.now order.now cuts.now counts.now) × Enough size.rows scratch.old }
-    ensures { ColumnsSearched (sheet_of size values.now codes.now order.now cuts.now counts.now) terms scratch.old result scratch.new }
+fn search_columns(sheet: &LentSheet, terms: Terms, scratch: &mut [u32]) -> Standing
+    requires { Whole (sheet_in sheet.now) × Enough sheet.now.measured.size.rows scratch.old }
+    ensures { ColumnsSearched (sheet_in sheet.now) terms scratch.old result scratch.new }
 {
-    let mut standing = nothing_tried(terms.error);
-    let mut column: usize = 0;
-    while column < size.columns {
-        standing = column_turns::search_column(
-            size, terms, values, codes, order, cuts, counts, column, standing, scratch,
-        );
+    let mut standing = Standing {
+        error: terms.error,
+        tried: 0,
+        held: None,
+    };
+    for column in 0..sheet.measured.size.columns {
+        standing = column_turns::search_column(sheet, terms, column, standing, scratch);
         if standing.error <= terms.gap {
             return standing;
         }
-        column += 1;
     }
     standing
 }
 
 // ---- the search
 
+// What a proof may count on of every slice of f64.
+fn are_doubles(values: &[f64])
+    ensures { AllDouble values.now }
+{}
+
+#[tactic(auto, unfolding(crate::specs::Columns::answer_held))]
 fn answer_of(standing: Standing) -> Answer
     ensures { result ≡ answer_held standing.error standing.tried standing.held }
 {
-    let held = standing.held;
-    let error = standing.error;
-    let tried = standing.tried;
+    let Standing { error, tried, held } = standing;
     match held {
-        Held::Empty => Answer::Kept { error, tried },
-        Held::Rule(tree) => Answer::Found { tree, tried },
+        None => Answer::Kept { error, tried },
+        Some(tree) => Answer::Found { tree, tried },
     }
 }
 
 // The search of a whole sheet: the input check, then the columns, then the lent words cleared.
-pub fn search(
-    size: Size,
-    terms: Terms,
-    values: &[f64],
-    codes: &[u8],
-    order: &[u16],
-    cuts: &[u16],
-    counts: &[u16],
-    scratch: &mut [u32],
-) -> Answer
-    ensures { SearchedOf size terms values.now codes.now order.now cuts.now counts.now scratch.old result scratch.new }
+pub fn search(sheet: &LentSheet, terms: Terms, scratch: &mut [u32]) -> Answer
+    ensures { SearchedOf (sheet_in sheet.now) terms scratch.old result scratch.new }
 {
-    let checked = sheet_check::check(size, terms, values, codes, order, cuts, counts, scratch);
-    match checked {
-        Checked::Refused(number, place) => Answer::TurnedBack { number, place },
-        Checked::Accepted => {
-            let standing = search_columns(size, terms, values, codes, order, cuts, counts, scratch);
-            let words = WORDS_PER_ROW * size.rows;
-            sheet::clear(scratch, words);
-            answer_of(standing)
-        }
+    are_doubles(sheet.measured.values);
+    if let Err(refusal) = sheet_check::check(sheet, terms, scratch) {
+        return Answer::from(refusal);
     }
+    let standing = search_columns(sheet, terms, scratch);
+    sheet::clear(scratch, WORDS_PER_ROW * sheet.measured.size.rows);
+    answer_of(standing)
 }
