@@ -12,8 +12,7 @@ use tree::Answer;
 // What a proof may count on of every slice of f64.
 fn are_doubles(values: &[f64])
     ensures { AllDouble values.now }
-{
-}
+{}
 
 // The search of a sheet. Its answer is the definition's, nothing better was passed over, it is never worse than the start, and a rule that
 // it names makes just the mistakes that it says.
