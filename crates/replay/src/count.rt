@@ -1,49 +1,49 @@
 // What is counted of a file, and of one record.
-#[derive(Drop)]
+use std::fmt;
+use std::ops::AddAssign;
+
+#[derive(Clone, Copy, Default)]
 pub struct Count {
-    pub sheets: u64,
-    pub differ: u64,
-    pub trees: u64,
-    pub misjudged: u64,
+    sheets: u64,
+    differ: u64,
+    trees: u64,
+    misjudged: u64,
 }
 
-pub fn nothing() -> Count {
-    Count {
-        sheets: 0,
-        differ: 0,
-        trees: 0,
-        misjudged: 0,
+impl Count {
+    pub fn sheet(differs: bool) -> Count {
+        Count {
+            sheets: 1,
+            differ: u64::from(differs),
+            ..Count::default()
+        }
+    }
+
+    pub fn tree(agrees: bool) -> Count {
+        Count {
+            trees: 1,
+            misjudged: u64::from(!agrees),
+            ..Count::default()
+        }
     }
 }
 
-fn one_if(holds: bool) -> u64 {
-    if holds { 1 } else { 0 }
-}
-
-pub fn sheet(differs: bool) -> Count {
-    Count {
-        sheets: 1,
-        differ: one_if(differs),
-        trees: 0,
-        misjudged: 0,
+impl AddAssign for Count {
+    // No sum comes near wrapping.
+    fn add_assign(&mut self, other: Count) {
+        self.sheets = self.sheets.wrapping_add(other.sheets);
+        self.differ = self.differ.wrapping_add(other.differ);
+        self.trees = self.trees.wrapping_add(other.trees);
+        self.misjudged = self.misjudged.wrapping_add(other.misjudged);
     }
 }
 
-pub fn tree(agrees: bool) -> Count {
-    Count {
-        sheets: 0,
-        differ: 0,
-        trees: 1,
-        misjudged: one_if(!agrees),
-    }
-}
-
-// No sum comes near wrapping.
-pub fn sum(a: Count, b: Count) -> Count {
-    Count {
-        sheets: std::num::wrapping_add_u64(a.sheets, b.sheets),
-        differ: std::num::wrapping_add_u64(a.differ, b.differ),
-        trees: std::num::wrapping_add_u64(a.trees, b.trees),
-        misjudged: std::num::wrapping_add_u64(a.misjudged, b.misjudged),
+impl fmt::Display for Count {
+    fn fmt<W: fmt::Write>(&self, f: &mut fmt::Formatter<W>) -> fmt::Result {
+        write!(
+            f,
+            "sheets={} differ={} trees={} misjudged={}",
+            self.sheets, self.differ, self.trees, self.misjudged
+        )
     }
 }

@@ -1,139 +1,81 @@
 // The rule that the search finds for a sheet's bytes, run over the rows by the judge.
-ghost use Rattle.std.specs.Prelude.{◌≤◌};
-
-use crate::count;
 use crate::count::Count;
-use basics::smaller;
-use judge::Verdict;
+use judge::judge;
 use judge::judge_rows::{Judgement, Wrong};
-use sheet::{MOST_COLUMNS, Size, Terms};
+use prepare::prepare;
+use sheet::lent::{LentSheet, Measured};
+use sheet::refusals::Refusal;
+use sheet::{MOST_COLUMNS, Terms};
 use sheet_bytes::sheet_room::{MOST_CELLS, MOST_READ};
-use sheet_bytes::{Head, MOST_WORDS, Read};
+use sheet_bytes::{Head, MOST_WORDS, read_sheet};
 use tree::{Answer, Side, Tree};
 
-// How many cells a sheet has; a sheet that was read is within the limits.
-fn cells_of(rows: usize, columns: usize, most: usize) -> usize
-    ensures { result ≤ most }
-{
-    if MOST_READ < rows {
-        return 0;
-    }
-    if MOST_COLUMNS < columns {
-        return 0;
-    }
-    let cells = rows * columns;
-    smaller(cells, most)
-}
-
 fn same_mistakes(wrong: Wrong, side: Side) -> bool {
-    match side {
-        Side::Leaf(leaf) => match wrong {
-            Wrong::AtLeaf(reached) => reached.wrong == leaf.error,
-            Wrong::AtSplit(_, _) => false,
-        },
-        Side::Split {
-            question: _,
-            left,
-            right,
-        } => match wrong {
-            Wrong::AtLeaf(_) => false,
-            Wrong::AtSplit(first, second) => first.wrong == left.error
-                && second.wrong == right.error,
-        },
+    match (wrong, side) {
+        (Wrong::AtLeaf(reached), Side::Leaf(leaf)) => reached.wrong == leaf.error,
+        (Wrong::AtSplit(first, second), Side::Split { left, right, .. }) => {
+            first.wrong == left.error && second.wrong == right.error
+        }
+        _ => false,
     }
 }
 
 // The judge's mistakes are the rule's own, in total and at each leaf, and its support is enough.
 fn confirms(judgement: Judgement, tree: Tree, support: u32) -> bool {
-    if judgement.mistakes != tree.error {
-        return false;
-    }
-    if judgement.support == 0 {
-        return false;
-    }
-    if judgement.support < support {
-        return false;
-    }
-    let first = judgement.left;
-    let left = tree.left;
-    if !same_mistakes(first, left) {
-        return false;
-    }
-    let second = judgement.right;
-    let right = tree.right;
-    same_mistakes(second, right)
-}
-
-fn search(
-    size: Size,
-    terms: Terms,
-    values: &[f64],
-    codes: &[u8],
-    order: &mut [u16],
-    cuts: &mut [u16],
-    counts: &mut [u16],
-    scratch: &mut [u32],
-) -> Answer {
-    prepare::prepare(size.rows, size.columns, values, order, cuts, counts);
-    depth2::search(size, terms, values, codes, order, cuts, counts, scratch)
+    judgement.mistakes == tree.error
+        && support.max(1) <= judgement.support
+        && same_mistakes(judgement.left, tree.left)
+        && same_mistakes(judgement.right, tree.right)
 }
 
 // The lists are lent as long as the sheet asks for.
-fn find(size: Size, terms: Terms, values: &[f64], codes: &[u8]) -> Answer {
+fn find(measured: Measured, terms: Terms) -> Result<Answer, Refusal> {
     let mut order = [0u16; MOST_CELLS];
     let mut cuts = [0u16; MOST_CELLS];
     let mut counts = [0u16; MOST_COLUMNS];
     let mut scratch = [0u32; MOST_WORDS];
-    let cells = smaller(values.len(), MOST_CELLS);
-    let columns = smaller(size.columns, MOST_COLUMNS);
-    search(
-        size,
-        terms,
-        values,
-        codes,
+    let cells = measured.values.len().min(MOST_CELLS);
+    let columns = measured.size.columns.min(MOST_COLUMNS);
+    prepare(
+        measured.size.rows,
+        columns,
+        measured.values,
         &mut order[..cells],
         &mut cuts[..cells],
         &mut counts[..columns],
-        &mut scratch,
-    )
+    )?;
+    let sheet = LentSheet {
+        measured,
+        order: &order[..cells],
+        cuts: &cuts[..cells],
+        counts: &counts[..columns],
+    };
+    Ok(depth2::search(&sheet, terms, &mut scratch))
 }
 
-fn judge_sheet(size: Size, terms: Terms, values: &[f64], codes: &[u8]) -> Count {
-    let answer = find(size, terms, values, codes);
-    let Answer::Found { tree, tried: _ } = answer else {
-        return count::nothing();
+fn judge_sheet(measured: &Measured, terms: Terms) -> Count {
+    let Ok(Answer::Found { tree, .. }) = find(*measured, terms) else {
+        return Count::default();
     };
-    let verdict = judge::judge(size, values, codes, tree);
-    let Verdict::Judged(judgement) = verdict else {
-        return count::tree(false);
+    let Ok(judgement) = judge(measured, tree) else {
+        return Count::tree(false);
     };
-    count::tree(confirms(judgement, tree, terms.support))
+    Count::tree(confirms(judgement, tree, terms.support))
 }
 
-// The room is the largest sheet's: only its start is the sheet's own.
-fn judge_read(head: Head, values: &[f64], codes: &[u8]) -> Count {
-    let size = Size {
-        rows: head.rows,
-        columns: head.columns,
-        labels: head.labels,
-    };
-    let terms = Terms {
-        support: head.support,
-        gap: head.gap,
-        error: head.error,
-        bound: head.bound,
-    };
-    let cells = cells_of(head.rows, head.columns, values.len());
-    let rows = smaller(head.rows, codes.len());
-    judge_sheet(size, terms, &values[..cells], &codes[..rows])
-}
-
+// The room is the largest sheet's: only its start is the sheet's own. A sheet that was read is within the limits, so that nothing of it is cut off.
 pub fn judge_bytes(bytes: &[u8]) -> Count {
     let mut values = [0.0f64; MOST_CELLS];
     let mut codes = [0u8; MOST_READ];
-    let read = sheet_bytes::read_sheet(bytes, &mut values, &mut codes);
-    let Read::Sheet { head } = read else {
-        return count::nothing();
+    let Ok(Head { size, terms }) = read_sheet(bytes, &mut values, &mut codes) else {
+        return Count::default();
     };
-    judge_read(head, &values, &codes)
+    let cells = size.rows.saturating_mul(size.columns).min(MOST_CELLS);
+    let rows = size.rows.min(MOST_READ);
+    let measured = Measured {
+        size,
+        values: &values[..cells],
+        codes: &codes[..rows],
+    };
+    judge_sheet(&measured, terms)
 }

@@ -6,8 +6,8 @@
 
 mod count;
 mod judged;
-mod record;
 
+use basics::reading::read_full;
 use count::Count;
 use listing::LONGEST;
 use std::fs::File;
@@ -24,100 +24,80 @@ const ROOM: usize = 4096;
 // The two lengths at a record's start.
 const LENGTHS: usize = 4;
 
-// Whether the first bytes of a text, so many as its length, are those recorded.
-fn same(text: &[u8], length: usize, recorded: &[u8]) -> bool {
-    if length != recorded.len() {
-        return false;
-    }
-    let mut i: usize = 0;
-    while i < recorded.len() {
-        if text.len() <= i {
-            return false;
-        }
-        if text[i] != recorded[i] {
-            return false;
-        }
-        i += 1;
-    }
-    true
-}
-
 fn replayed(bytes: &[u8], recorded: &[u8]) -> Count {
     let mut text = [0u8; LONGEST];
     let length = rule_finder::run(bytes, &mut text);
-    let told = same(&text, length, recorded);
-    count::sum(count::sheet(!told), judged::judge_bytes(bytes))
+    let mut count = Count::sheet(&text[..length] != recorded);
+    count += judged::judge_bytes(bytes);
+    count
+}
+
+// The next bytes of a file, as many as `size`; none where there is no room for so many, or the file ends before.
+fn read_part<'a>(
+    file: &mut impl Read,
+    room: &'a mut [u8],
+    size: usize,
+) -> io::Result<Option<&'a [u8]>> {
+    if room.len() < size {
+        return Ok(None);
+    }
+    let came = read_full(file, &mut room[..size])?;
+    if came < size {
+        return Ok(None);
+    }
+    Ok(Some(&room[..size]))
 }
 
 // A record that is cut short, or longer than any that was recorded, is told otherwise.
-fn replay_record(file: &mut impl Read, size: usize, length: usize) -> io::Result<Count> {
+fn replay_record(file: &mut impl Read, size: u16, length: u16) -> io::Result<Count> {
     let mut bytes = [0u8; ROOM];
     let mut text = [0u8; LONGEST];
-    let read = record::read_bytes(file, &mut bytes, size)?;
-    let told = record::read_bytes(file, &mut text, length)?;
-    if read != size {
-        return Ok(count::sheet(true));
+    let sheet = read_part(file, &mut bytes, usize::from(size))?;
+    let recorded = read_part(file, &mut text, usize::from(length))?;
+    match (sheet, recorded) {
+        (Some(sheet), Some(recorded)) => Ok(replayed(sheet, recorded)),
+        _ => Ok(Count::sheet(true)),
     }
-    if told != length {
-        return Ok(count::sheet(true));
-    }
-    Ok(replayed(&bytes[..read], &text[..told]))
 }
 
-// At the file's end nothing is counted, not even a sheet.
-fn replay_next(file: &mut impl Read) -> io::Result<Count> {
+// What the next record counts; none at the file's end. oracle/recorded/README.md has a record's layout.
+fn replay_next(file: &mut impl Read) -> io::Result<Option<Count>> {
     let mut lengths = [0u8; LENGTHS];
-    let got = record::read_full(file, &mut lengths)?;
-    if got == 0 {
-        return Ok(count::nothing());
+    let came = read_full(file, &mut lengths)?;
+    if came == 0 {
+        return Ok(None);
     }
-    if got < LENGTHS {
-        return Ok(count::sheet(true));
+    if came < LENGTHS {
+        return Ok(Some(Count::sheet(true)));
     }
-    let size = record::number(lengths[0], lengths[1]);
-    let length = record::number(lengths[2], lengths[3]);
-    replay_record(file, size, length)
+    let [a, b, c, d] = lengths;
+    let count = replay_record(file, u16::from_le_bytes([a, b]), u16::from_le_bytes([c, d]))?;
+    Ok(Some(count))
 }
 
 fn replay_all(file: &mut impl Read) -> io::Result<Count> {
-    let mut total = count::nothing();
-    let mut records: u64 = 0;
-    while records < MOST_RECORDS {
-        let next = replay_next(file)?;
-        if next.sheets == 0 {
+    let mut total = Count::default();
+    for _ in 0..MOST_RECORDS {
+        let Some(count) = replay_next(file)? else {
             return Ok(total);
-        }
-        total = count::sum(total, next);
-        records += 1;
+        };
+        total += count;
     }
     Ok(total)
 }
 
-fn print_field(rt: &impl Print, word: &[u8], n: u64) -> io::Result<()> {
-    rt.write_all(word)?;
-    rt.print(n)
-}
-
-fn report(rt: &impl Print, name: &[u8], count: Count) -> io::Result<()> {
-    rt.write_all(name)?;
-    print_field(rt, b" sheets=", count.sheets)?;
-    print_field(rt, b" differ=", count.differ)?;
-    print_field(rt, b" trees=", count.trees)?;
-    print_field(rt, b" misjudged=", count.misjudged)?;
-    rt.write_all(b"\n")
-}
-
 // A file that cannot be opened has no line, and the run fails.
 fn replay<R: Files + Print + Eprint>(rt: &R, path: &str) -> io::Result<()> {
-    let mut file = match File::open(rt, path) {
-        Ok(file) => file,
+    match File::open(rt, path) {
+        Ok(mut file) => {
+            let total = replay_all(&mut file)?;
+            println!(rt; "{path} {total}")
+        }
         Err(error) => {
             eprintln!(rt; "{path}: {error}")?;
-            return Err(error);
+            Err(error)
         }
-    };
-    let total = replay_all(&mut file)?;
-    report(rt, path.as_bytes(), total)
+    }
 }
 
 fn main(rt: HostRuntime) -> io::Result<()> {
