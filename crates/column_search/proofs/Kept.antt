@@ -11,11 +11,12 @@ use Rattle.interval_pruner.specs.declared.Bound.{Bound}
 use Rattle.interval_pruner.specs.declared.Zeros.{Zeros}
 use Rattle.interval_pruner.specs.Column.{Column, place_in, error_of}
 use Rattle.column_search.specs.Search.{State, limit, zeros_of, middle, queued, try_cut, dropped, turn_on, turn, turns, start}
-use Rattle.column_search.specs.Laws.{Inside, Feasible, RunOf, Among, IfCut, Remembers, TriesFeasible, TriesCounted, state_after}
+use Rattle.column_search.specs.Laws.{Inside, Feasible, RunOf, Among, Remembers, TriesFeasible, TriesCounted, state_after}
 use Rattle.column_search.specs.Loop.{Seen, Waiting, Kept}
 use Rattle.column_search.proofs.Steps.{parts_all, try_all, turn_case}
+use Rattle.interval_pruner.specs.Pruner.{Held}
 
-pub cut_map : (P Q : ℕ → Type 0) → ((k : ℕ) → P k → Q k) → (t : Option ℕ) → IfCut P t → IfCut Q t
+pub cut_map : (P Q : ℕ → Type 0) → ((k : ℕ) → P k → Q k) → (t : Option ℕ) → Held P t → Held Q t
 cut_map P Q f None h = tt
 cut_map P Q f (Some k) h = f k h
 
@@ -25,13 +26,13 @@ module _ (c : Column) (first last b b' m : ℕ) (tried : List ℕ) (less : b' �
 
   -- what a part remembers, handed down from i
   left_later : (i j : Bound) → i.first ≤ j.first → j.left ≡ i.left
-      → Waiting c first last b tried i → IfCut (λ k. (k < j.first) × Seen c first last b' (m ∷ tried) k) j.left
+      → Waiting c first last b tried i → Held (λ k. (k < j.first) × Seen c first last b' (m ∷ tried) k) j.left
   left_later i j h e w =
       rw e (cut_map (λ k. (k < i.first) × Seen c first last b tried k) (λ k. (k < j.first) × Seen c first last b' (m ∷ tried) k)
       (λ k g. (omega arith, seen_later k g.1)) i.left w.left)
 
   right_later : (i j : Bound) → j.last ≤ i.last → j.right ≡ i.right
-      → Waiting c first last b tried i → IfCut (λ k. (j.last ≤ k) × Seen c first last b' (m ∷ tried) k) j.right
+      → Waiting c first last b tried i → Held (λ k. (j.last ≤ k) × Seen c first last b' (m ∷ tried) k) j.right
   right_later i j h e w =
       rw e (cut_map (λ k. (i.last ≤ k) × Seen c first last b tried k) (λ k. (j.last ≤ k) × Seen c first last b' (m ∷ tried) k)
       (λ k g. (omega arith, seen_later k g.1)) i.right w.right)
@@ -116,7 +117,7 @@ pub remembers : Remembers
 remembers c bound first last error n fair =
     let s : State = state_after c bound first last error n in
     let b : ℕ = limit bound s.error in
-    all_map (Waiting c first last b s.tried) (λ i. IfCut (λ k. Among k s.tried) i.left × IfCut (λ k. Among k s.tried) i.right)
+    all_map (Waiting c first last b s.tried) (λ i. Held (λ k. Among k s.tried) i.left × Held (λ k. Among k s.tried) i.right)
     (λ i w. (
       cut_map (λ k. (k < i.first) × Seen c first last b s.tried k) (λ k. Among k s.tried) (λ k g. g.1.among) i.left w.left,
       cut_map (λ k. (i.last ≤ k) × Seen c first last b s.tried k) (λ k. Among k s.tried) (λ k g. g.1.among) i.right w.right,

@@ -10,9 +10,9 @@ use Rattle.basics.proofs.Choice.{by_test, neqb}
 use Rattle.std.specs.Prelude.{Option, Some, None}
 use Rattle.interval_pruner.specs.Column.{left_error, right_error}
 use Rattle.interval_pruner.proofs.Results.{max_either, min_either}
-use Rattle.interval_pruner.specs.Pruner.{highest_zero, lowest_zero, zeros_after}
+use Rattle.interval_pruner.specs.Pruner.{highest_zero, lowest_zero, zeros_after, Held}
 use Rattle.column_search.specs.Search.{zeros_of}
-use Rattle.column_search.specs.Laws.{Among, IfCut, Extreme, Marks}
+use Rattle.column_search.specs.Laws.{Among, Extreme, Marks}
 
 none_among : (k : ℕ) → Among k [] → ⊥
 none_among k = elim [ ]
@@ -79,6 +79,6 @@ marks c (k ∷ tried) = (
 
 -- what holds of every tried cut holds of a mark
 pub mark_of : (Q P : ℕ → Type 0) (below : ℕ → ℕ → Type 0) (tried : List ℕ) (t : Option ℕ) → All Q tried → Extreme P below tried t
-    → IfCut (λ z. Q z × P z) t
+    → Held (λ z. Q z × P z) t
 mark_of Q P below tried None v h = tt
 mark_of Q P below tried (Some z) v h = (all_among Q z tried v h.0, h.1)

@@ -15,10 +15,10 @@ use Rattle.cuts.proofs.Lookups.{first_low, first_le, first_at, sought_low, sough
 use Rattle.std.specs.Prelude.{Option, Some, None}
 use Rattle.interval_pruner.specs.declared.Bound.{Bound}
 use Rattle.interval_pruner.specs.Column.{Column, place_in, left_error, right_error, error_of}
-use Rattle.interval_pruner.specs.Pruner.{past, short, sum_of, held_error, hopeless, start_after, interval_within, end_above, end_before, shrunk_of, upper_from, lower_near, lower_to, parts_of}
+use Rattle.interval_pruner.specs.Pruner.{past, short, sum_of, held_error, hopeless, start_after, interval_within, end_above, end_before, shrunk_of, upper_from, lower_near, lower_to, parts_of, Held}
 use Rattle.interval_pruner.proofs.Shrinking.{start_low}
 use Rattle.column_search.specs.Search.{State, limit, zeros_of, middle, part, upper_part, lower_part, queued, try_cut, dropped, turn_on, turn, turns, start, column_run}
-use Rattle.column_search.specs.Laws.{Inside, Feasible, RunOf, IfCut, Metric, NothingLost, count}
+use Rattle.column_search.specs.Laws.{Inside, Feasible, RunOf, Metric, NothingLost, count}
 use Rattle.column_search.specs.Loop.{Seen, Waiting, Kept}
 use Rattle.column_search.proofs.Steps.{past_ge, shrunk_in, new_parts, turn_cases}
 use Rattle.column_search.proofs.Kept.{kept_try, kept_turn, kept_start}
@@ -39,12 +39,12 @@ module _ (c : Column) (bound first last : ℕ) (fair : Feasible c first last) (m
   module _ (b k : ℕ) (from : first ≤ k) (till : k ≤ last) (worth : error_of c k + c.gap < b) (tried : List ℕ) where
     -- ---- step 1
 
-    left_held : (i : Bound) (o : Option ℕ) → IfCut (λ l. (l < i.first) × Seen c first last b tried l) o → i.first ≤ k → held_error (left_error c) o ≤ left_error c k
+    left_held : (i : Bound) (o : Option ℕ) → Held (λ l. (l < i.first) × Seen c first last b tried l) o → i.first ≤ k → held_error (left_error c) o ≤ left_error c k
     unfolding held_error
     left_held i None g h = omega arith
     left_held i (Some l) g h = met.lefts l k g.1.from (omega arith) till
 
-    right_held : (i : Bound) (o : Option ℕ) → IfCut (λ r. (i.last ≤ r) × Seen c first last b tried r) o → k ≤ i.last → held_error (right_error c) o ≤ right_error c k
+    right_held : (i : Bound) (o : Option ℕ) → Held (λ r. (i.last ≤ r) × Seen c first last b tried r) o → k ≤ i.last → held_error (right_error c) o ≤ right_error c k
     unfolding held_error
     right_held i None g h = omega arith
     right_held i (Some r) g h = met.rights k r from (omega arith) g.1.till
@@ -62,14 +62,14 @@ module _ (c : Column) (bound first last : ℕ) (fair : Feasible c first last) (m
 
     -- ---- step 2
 
-    past_keeps : (o : Option ℕ) (a : ℕ) → IfCut (λ z. Seen c first last b tried z × (left_error c z ≡ 0)) o → a ≤ k → past o a ≤ k
+    past_keeps : (o : Option ℕ) (a : ℕ) → Held (λ z. Seen c first last b tried z × (left_error c z ≡ 0)) o → a ≤ k → past o a ≤ k
     unfolding past
     past_keeps None a g h = h
     past_keeps (Some z) a g h =
         let s : Seen c first last b tried z = g.0 in
         order k z (λ l. absurd (omega (arith, met.rights k z from l s.till))) (λ l. omega arith)
 
-    short_keeps : (o : Option ℕ) (e : ℕ) → IfCut (λ z. Seen c first last b tried z × (right_error c z ≡ 0)) o → k ≤ e → k ≤ short o e
+    short_keeps : (o : Option ℕ) (e : ℕ) → Held (λ z. Seen c first last b tried z × (right_error c z ≡ 0)) o → k ≤ e → k ≤ short o e
     unfolding short
     short_keeps None e g h = h
     short_keeps (Some z) e g h =
@@ -83,7 +83,7 @@ module _ (c : Column) (bound first last : ℕ) (fair : Feasible c first last) (m
     near_left : (r : ℕ) → k ≤ r → r ≤ last → b ≤ sum_of c r → place_in c k + (sum_of c r - b + 1) ≤ place_in c r
     near_left r h g l = omega (arith, met.rights k r from h g, met.left_near k r from h g)
 
-    start_after_keeps : (i : Bound) (o : Option ℕ) (a : ℕ) → IfCut (λ l. (l < i.first) × Seen c first last b tried l) o → i.first ≤ k → a ≤ k
+    start_after_keeps : (i : Bound) (o : Option ℕ) (a : ℕ) → Held (λ l. (l < i.first) × Seen c first last b tried l) o → i.first ≤ k → a ≤ k
         → start_after c b o a ≤ k
     unfolding start_after
     start_after_keeps i None a g f h = h
@@ -108,7 +108,7 @@ module _ (c : Column) (bound first last : ℕ) (fair : Feasible c first last) (m
     unfolding interval_within
     within_keeps i a e h g = by_leb (HitTo (Has k)) a e (λ _. (h, g)) (λ l. absurd (omega arith))
 
-    end_before_keeps : (i : Bound) (o : Option ℕ) (a e : ℕ) → IfCut (λ r. (i.last ≤ r) × Seen c first last b tried r) o → k ≤ i.last
+    end_before_keeps : (i : Bound) (o : Option ℕ) (a e : ℕ) → Held (λ r. (i.last ≤ r) × Seen c first last b tried r) o → k ≤ i.last
         → first ≤ a → a ≤ k → k ≤ e → HitTo (Has k) (end_before c b o i a e)
     unfolding end_before end_above
     end_before_keeps i None a e g f fa h l = within_keeps i a e h l
@@ -129,11 +129,11 @@ module _ (c : Column) (bound first last : ℕ) (fair : Feasible c first last) (m
 
     -- the marks, of tried cuts
     module _ (seen : All (Seen c first last b tried) tried) where
-      left_mark : IfCut (λ z. Seen c first last b tried z × (left_error c z ≡ 0)) (zeros_of c tried).left
+      left_mark : Held (λ z. Seen c first last b tried z × (left_error c z ≡ 0)) (zeros_of c tried).left
       left_mark =
           mark_of (Seen c first last b tried) (λ z. left_error c z ≡ 0) (λ x z. x ≤ z) tried (zeros_of c tried).left seen (marks c tried).0
 
-      right_mark : IfCut (λ z. Seen c first last b tried z × (right_error c z ≡ 0)) (zeros_of c tried).right
+      right_mark : Held (λ z. Seen c first last b tried z × (right_error c z ≡ 0)) (zeros_of c tried).right
       right_mark =
           mark_of (Seen c first last b tried) (λ z. right_error c z ≡ 0) (λ x z. z ≤ x) tried (zeros_of c tried).right seen (marks c tried).1
 

@@ -15,9 +15,9 @@ use Rattle.interval_pruner.specs.declared.Bound.{Bound}
 use Rattle.interval_pruner.specs.declared.Zeros.{Zeros}
 use Rattle.interval_pruner.specs.declared.Parts.{Parts}
 use Rattle.interval_pruner.specs.Column.{Column, place_in, left_error, right_error, error_of}
-use Rattle.interval_pruner.specs.Pruner.{zeros_after, past, short, sum_of, held_error, hopeless, start_after, interval_within, end_above, end_before, shrunk_of, upper_from, lower_near, lower_to, parts_of}
+use Rattle.interval_pruner.specs.Pruner.{zeros_after, past, short, sum_of, held_error, hopeless, start_after, interval_within, end_above, end_before, shrunk_of, upper_from, lower_near, lower_to, parts_of, Held}
 use Rattle.column_search.specs.Search.{State, limit, zeros_of, middle, part, upper_part, lower_part, queued, try_cut, dropped, after_shrink, turn_on, turn, turns, start, column_run}
-use Rattle.column_search.specs.Laws.{Inside, IfTo, Feasible, RunOf, IfCut, over, Agree, SameRun, count, state_after}
+use Rattle.column_search.specs.Laws.{Inside, Feasible, RunOf, over, Agree, SameRun, count, state_after}
 use Rattle.column_search.specs.Loop.{Seen, Waiting, Kept, SameHope, SameShrunk, SameZeros, SameParts, SameTry, SameTurn, Recalls}
 use Rattle.column_search.proofs.Steps.{shrunk_in_lem, shrunk_in}
 use Rattle.column_search.proofs.Kept.{cut_map, kept_turn, kept_start}
@@ -37,12 +37,12 @@ module _ (c : Column) (errors : ℕ → ℕ × ℕ) where
 
   -- ---- steps 1 and 2
 
-  held_same : {f g : ℕ → ℕ} → ((k : ℕ) → Agree c errors k → f k ≡ g k) → (o : Option ℕ) → IfCut (Agree c errors) o → held_error f o ≡ held_error g o
+  held_same : {f g : ℕ → ℕ} → ((k : ℕ) → Agree c errors k → f k ≡ g k) → (o : Option ℕ) → Held (Agree c errors) o → held_error f o ≡ held_error g o
   unfolding held_error
   held_same e None h = refl
   held_same e (Some k) h = e k h
 
-  start_after_same : (b : ℕ) (o : Option ℕ) (first : ℕ) → IfCut (Agree c errors) o → start_after c b o first ≡ start_after (over c errors) b o first
+  start_after_same : (b : ℕ) (o : Option ℕ) (first : ℕ) → Held (Agree c errors) o → start_after c b o first ≡ start_after (over c errors) b o first
   unfolding start_after
   start_after_same b None first h = refl
   start_after_same b (Some k) first h =
@@ -53,7 +53,7 @@ module _ (c : Column) (errors : ℕ → ℕ × ℕ) where
   unfolding end_above
   end_above_same i x first last = refl
 
-  end_before_same : (b : ℕ) (o : Option ℕ) (i : Bound) (first last : ℕ) → IfCut (Agree c errors) o
+  end_before_same : (b : ℕ) (o : Option ℕ) (i : Bound) (first last : ℕ) → Held (Agree c errors) o
       → end_before c b o i first last ≡ end_before (over c errors) b o i first last
   unfolding end_before
   end_before_same b None i first last h = refl
@@ -117,7 +117,7 @@ same_try c errors bound s rest i h g =
 pub recalls : Recalls
 recalls c errors bound first last s h g =
     let b : ℕ = limit bound s.error in
-    all_map (Waiting c first last b s.tried) (λ i. IfCut (Agree c errors) i.left × IfCut (Agree c errors) i.right)
+    all_map (Waiting c first last b s.tried) (λ i. Held (Agree c errors) i.left × Held (Agree c errors) i.right)
     (λ i w. (
       cut_map (λ k. (k < i.first) × Seen c first last b s.tried k) (Agree c errors)
           (λ k x. all_among (Agree c errors) k s.tried g x.1.among) i.left w.left,
@@ -131,7 +131,7 @@ module _ (c : Column) (errors : ℕ → ℕ × ℕ) (bound first last : ℕ) (ag
   agree_tried : (b : ℕ) (tried l : List ℕ) → All (Seen c first last b tried) l → All (Agree c errors) l
   agree_tried b tried l h = all_map (Seen c first last b tried) (Agree c errors) (λ k s. agree k s.from s.till) l h
 
-  shrink_same : (s : State) (i : Bound) (rest : List Bound) (o : Option Bound) → RunOf first last i → IfTo (Inside i) o → All (Agree c errors) s.tried
+  shrink_same : (s : State) (i : Bound) (rest : List Bound) (o : Option Bound) → RunOf first last i → Held (Inside i) o → All (Agree c errors) s.tried
       → after_shrink c bound s rest o ≡ after_shrink (over c errors) bound s rest o
   unfolding after_shrink
   shrink_same s i rest None r n g = refl
@@ -143,7 +143,7 @@ module _ (c : Column) (errors : ℕ → ℕ × ℕ) (bound first last : ℕ) (ag
   turn_on_same s (i ∷ rest) h =
       let b : ℕ = limit bound s.error in
       let g : All (Agree c errors) s.tried = agree_tried b s.tried s.tried h.tried in
-      let r : All (λ j. IfCut (Agree c errors) j.left × IfCut (Agree c errors) j.right) (i ∷ rest) =
+      let r : All (λ j. Held (Agree c errors) j.left × Held (Agree c errors) j.right) (i ∷ rest) =
       recalls c errors bound first last (dropped s (i ∷ rest)) h g in
       let shrunk : shrunk_in c bound s i ≡ shrunk_in (over c errors) bound s i =
       ap (λ (z : Zeros). shrunk_of c z b i) (same_marks c errors s.tried g) ∙ same_shrunk c errors (zeros_of (over c errors) s.tried) b i r.0.0 r.0.1 in

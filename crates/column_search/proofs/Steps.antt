@@ -15,10 +15,10 @@ use Rattle.std.specs.Prelude.{Option, Some, None}
 use Rattle.interval_pruner.specs.declared.Bound.{Bound}
 use Rattle.interval_pruner.specs.declared.Zeros.{Zeros}
 use Rattle.interval_pruner.specs.Column.{Column, place_in, error_of}
-use Rattle.interval_pruner.specs.Pruner.{past, short, sum_of, start_after, interval_within, end_above, end_before, shrunk_of, upper_from, lower_near, lower_to, parts_of, hopeless}
+use Rattle.interval_pruner.specs.Pruner.{past, short, sum_of, start_after, interval_within, end_above, end_before, shrunk_of, upper_from, lower_near, lower_to, parts_of, hopeless, Held}
 use Rattle.interval_pruner.proofs.Shrinking.{start_low}
 use Rattle.column_search.specs.Search.{State, limit, zeros_of, middle, part, upper_part, lower_part, queued, try_cut, dropped, after_shrink, turn_on}
-use Rattle.column_search.specs.Laws.{IfTo, Inside, Shrinks, Sides}
+use Rattle.column_search.specs.Laws.{Inside, Shrinks, Sides}
 
 -- ---- step 2
 
@@ -32,19 +32,19 @@ unfolding short
 short_le None last = omega arith
 short_le (Some z) last = omega arith
 
-within_in : (i : Bound) (first last : ℕ) → i.first ≤ first → last ≤ i.last → IfTo (Inside i) (interval_within i first last)
+within_in : (i : Bound) (first last : ℕ) → i.first ≤ first → last ≤ i.last → Held (Inside i) (interval_within i first last)
 unfolding interval_within
 within_in i first last h g =
-    by_leb (IfTo (Inside i)) first last (λ l. record { low = h; full = l; high = g; left = refl; right = refl }) (λ _. tt)
+    by_leb (Held (Inside i)) first last (λ l. record { low = h; full = l; high = g; left = refl; right = refl }) (λ _. tt)
 
 end_before_in : (c : Column) (b : ℕ) (o : Option ℕ) (i : Bound) (first last : ℕ) → i.first ≤ first → last ≤ i.last
-    → IfTo (Inside i) (end_before c b o i first last)
+    → Held (Inside i) (end_before c b o i first last)
 unfolding end_before end_above
 end_before_in c b None i first last h g = within_in i first last h g
 end_before_in c b (Some k) i first last h g =
     let x : ℕ = place_in c k - (sum_of c k - b + 1) in
-    by_leb (IfTo (Inside i)) b (sum_of c k)
-    (λ _. by_ltb (IfTo (Inside i)) x (place_in c first) (λ _. tt)
+    by_leb (Held (Inside i)) b (sum_of c k)
+    (λ _. by_ltb (Held (Inside i)) x (place_in c first) (λ _. tt)
     (λ _. within_in i first (min last (first_from (above c.places x) c.places first)) h (omega arith)))
     (λ _. within_in i first last h g)
 
@@ -52,7 +52,7 @@ pub shrunk_in_lem : Shrinks
 unfolding shrunk_of
 shrunk_in_lem c z b i =
     let from : ℕ = past z.left i.first in
-    by_test (IfTo (Inside i)) c.small
+    by_test (Held (Inside i)) c.small
     (λ _. end_before_in c b i.right i (start_after c b i.left from) (short z.right i.last)
     (omega (arith, past_ge z.left i.first, start_low c b i.left from)) (short_le z.right i.last))
     (λ _. within_in i i.first i.last (omega arith) (omega arith))
@@ -172,7 +172,7 @@ turn_cases P c bound s i rest f g k =
     by_test P (hopeless c (limit bound s.error) i) f
     (λ _. go (shrunk_in c bound s i) refl (shrunk_in_lem c (zeros_of c s.tried) (limit bound s.error) i))
   where
-    go : (o : Option Bound) → shrunk_in c bound s i ≡ o → IfTo (Inside i) o → P (after_shrink c bound s rest o)
+    go : (o : Option Bound) → shrunk_in c bound s i ≡ o → Held (Inside i) o → P (after_shrink c bound s rest o)
     go None e n = g e
     go (Some j) e n = k j e n
 

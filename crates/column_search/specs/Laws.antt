@@ -6,7 +6,7 @@ use Rattle.basics.specs.Lists.{All, Any, tally}
 use Rattle.interval_pruner.specs.declared.Bound.{Bound}
 use Rattle.interval_pruner.specs.declared.Zeros.{Zeros}
 use Rattle.interval_pruner.specs.Column.{Column, place_in, left_error, right_error, error_of}
-use Rattle.interval_pruner.specs.Pruner.{shrunk_of, parts_of}
+use Rattle.interval_pruner.specs.Pruner.{shrunk_of, parts_of, Held}
 use Rattle.column_search.specs.Search.{State, zeros_of, try_cut, dropped, turns, start, column_run, tries_of}
 
 -- ---- what is asked of the column
@@ -27,11 +27,6 @@ state_after c bound first last error n = turns c bound n (start first last error
 
 -- ---- the steps
 
--- if an interval is left, it is such
-abbrev pub IfTo : (Bound → Type 0) → Option Bound → Type 0
-IfTo P None = Unit {0}
-IfTo P (Some j) = P j
-
 -- "No end moves outwards. An empty interval is dropped."
 pub record Inside (i j : Bound) : Type 0 where
   pub low : i.first ≤ j.first
@@ -41,7 +36,7 @@ pub record Inside (i j : Bound) : Type 0 where
   pub right : j.right ≡ i.right
 
 abbrev pub Shrinks : Type 0
-Shrinks = (c : Column) (z : Zeros) (b : ℕ) (i : Bound) → IfTo (Inside i) (shrunk_of c z b i)
+Shrinks = (c : Column) (z : Zeros) (b : ℕ) (i : Bound) → Held (Inside i) (shrunk_of c z b i)
 
 -- the upper part starts past the tried cut, and the lower part ends at it or before
 abbrev pub Sides : Type 0
@@ -109,17 +104,12 @@ TriesFeasible =
 abbrev pub Among : ℕ → List ℕ → Type 0
 Among k tried = Any (λ t. t ≡ k) tried
 
--- if a cut is remembered, it is such
-abbrev pub IfCut : (ℕ → Type 0) → Option ℕ → Type 0
-IfCut P None = Unit {0}
-IfCut P (Some k) = P k
-
 -- every cut that a queued interval remembers has been tried
 abbrev pub Remembers : Type 0
 Remembers =
     (c : Column) (bound first last error n : ℕ) → Feasible c first last
     → let s : State = state_after c bound first last error n in
-    All (λ i. IfCut (λ k. Among k s.tried) i.left × IfCut (λ k. Among k s.tried) i.right) s.queue
+    All (λ i. Held (λ k. Among k s.tried) i.left × Held (λ k. Among k s.tried) i.right) s.queue
 
 -- A tried cut that is such, and of all such the extreme one by the order; none if no tried cut is such.
 abbrev pub Extreme : (ℕ → Type 0) → (ℕ → ℕ → Type 0) → List ℕ → Option ℕ → Type 0

@@ -4,9 +4,9 @@ use Rattle.basics.specs.Lists.{All, total}
 use Rattle.interval_pruner.specs.declared.Bound.{Bound}
 use Rattle.interval_pruner.specs.declared.Zeros.{Zeros}
 use Rattle.interval_pruner.specs.Column.{Column, error_of}
-use Rattle.interval_pruner.specs.Pruner.{hopeless, shrunk_of, parts_of}
+use Rattle.interval_pruner.specs.Pruner.{hopeless, shrunk_of, parts_of, Held}
 use Rattle.column_search.specs.Search.{State, limit, zeros_of, middle, try_cut, turn, turns, start, column_run, tries_of}
-use Rattle.column_search.specs.Laws.{Feasible, RunOf, Among, IfCut, over, Agree, count}
+use Rattle.column_search.specs.Laws.{Feasible, RunOf, Among, over, Agree, count}
 
 -- ---- what holds between any two intervals
 
@@ -21,8 +21,8 @@ pub record Seen (c : Column) (first last b : ℕ) (tried : List ℕ) (k : ℕ) :
 -- above it or, since the lower part may keep the tried cut, at its end.
 pub record Waiting (c : Column) (first last b : ℕ) (tried : List ℕ) (i : Bound) : Type 0 where
   pub run : RunOf first last i
-  pub left : IfCut (λ k. (k < i.first) × Seen c first last b tried k) i.left
-  pub right : IfCut (λ k. (i.last ≤ k) × Seen c first last b tried k) i.right
+  pub left : Held (λ k. (k < i.first) × Seen c first last b tried k) i.left
+  pub right : Held (λ k. (i.last ≤ k) × Seen c first last b tried k) i.right
 
 -- of all queued intervals and all tried cuts
 pub record Kept (c : Column) (bound first last : ℕ) (s : State) : Type 0 where
@@ -63,12 +63,12 @@ Loops = (c : Column) (bound first last error : ℕ) → Feasible c first last �
 -- Steps 1 and 2 look at the errors of the remembered cuts only, ..
 abbrev pub SameHope : Type 0
 SameHope =
-    (c : Column) (errors : ℕ → ℕ × ℕ) (b : ℕ) (i : Bound) → IfCut (Agree c errors) i.left → IfCut (Agree c errors) i.right
+    (c : Column) (errors : ℕ → ℕ × ℕ) (b : ℕ) (i : Bound) → Held (Agree c errors) i.left → Held (Agree c errors) i.right
     → hopeless c b i ≡ hopeless (over c errors) b i
 
 abbrev pub SameShrunk : Type 0
 SameShrunk =
-    (c : Column) (errors : ℕ → ℕ × ℕ) (z : Zeros) (b : ℕ) (i : Bound) → IfCut (Agree c errors) i.left → IfCut (Agree c errors) i.right
+    (c : Column) (errors : ℕ → ℕ × ℕ) (z : Zeros) (b : ℕ) (i : Bound) → Held (Agree c errors) i.left → Held (Agree c errors) i.right
     → shrunk_of c z b i ≡ shrunk_of (over c errors) z b i
 
 -- .. the marks at those of the tried cuts, ..
@@ -92,7 +92,7 @@ SameTry =
 abbrev pub Recalls : Type 0
 Recalls =
     (c : Column) (errors : ℕ → ℕ × ℕ) (bound first last : ℕ) (s : State) → Kept c bound first last s → All (Agree c errors) s.tried
-    → All (λ i. IfCut (Agree c errors) i.left × IfCut (Agree c errors) i.right) s.queue
+    → All (λ i. Held (Agree c errors) i.left × Held (Agree c errors) i.right) s.queue
 
 -- One interval: evaluators that agree on the feasible cuts do the same to any state that a run can reach.
 abbrev pub SameTurn : Type 0

@@ -15,13 +15,13 @@ use Rattle.interval_pruner.specs.declared.Bound.{Bound}
 use Rattle.interval_pruner.specs.declared.Parts.{Parts}
 use Rattle.interval_pruner.specs.declared.Zeros.{Zeros}
 use Rattle.interval_pruner.specs.Column.{recorded_column}
-use Rattle.interval_pruner.specs.Pruner.{parts_of}
+use Rattle.interval_pruner.specs.Pruner.{parts_of, Held}
 use Rattle.interval_queue.specs.declared.Queue.{Queue}
 use Rattle.interval_queue.specs.Ring.{slots_of, contents, full, pushed, pushed_words}
 use Rattle.interval_queue.specs.Laws.{Sane, SmallCut}
 use Rattle.interval_queue.proofs.Waiting.{push_appends}
 use Rattle.column_search.specs.Search.{part, upper_part, lower_part}
-use Rattle.column_search.specs.Laws.{IfCut}
+
 use Rattle.column_search.proofs.Steps.{sides}
 use Rattle.column_turns.specs.Lent.{table_of, ring_of, Enough}
 use Rattle.column_turns.specs.Ready.{Became}
@@ -86,7 +86,7 @@ both_queued rows xs ys zs q r u l m a b =
 
 -- ---- the two parts
 
-small_cut : (n : ℕ) (t : Option ℕ) → n ≤ most_rows → IfCut (λ k. k < n) t → SmallCut t
+small_cut : (n : ℕ) (t : Option ℕ) → n ≤ most_rows → Held (λ k. k < n) t → SmallCut t
 small_cut n None h g = tt
 small_cut n (Some k) h g = omega arith
 

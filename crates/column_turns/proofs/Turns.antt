@@ -22,7 +22,7 @@ use Rattle.interval_pruner.specs.declared.Bound.{Bound}
 use Rattle.interval_pruner.specs.declared.Zeros.{Zeros}
 use Rattle.interval_pruner.specs.Column as column
 use Rattle.interval_pruner.specs.Column.{Column, left_error, right_error, recorded}
-use Rattle.interval_pruner.specs.Pruner.{highest_zero, zeros_after, hopeless, shrunk_of}
+use Rattle.interval_pruner.specs.Pruner.{highest_zero, zeros_after, hopeless, shrunk_of, Held}
 use Rattle.interval_queue.specs.declared.Queue.{Queue}
 use Rattle.interval_queue.specs.declared.Popped.{Popped}
 use Rattle.interval_queue.specs.Ring.{contents, popped}
@@ -30,7 +30,7 @@ use Rattle.interval_queue.specs.Laws.{Sane}
 use Rattle.interval_queue.proofs.Cases.{take_popped}
 use Rattle.interval_queue.proofs.Waiting.{pop_takes_first}
 use Rattle.column_search.specs.Search.{State, limit, zeros_of, middle, dropped, try_cut, after_shrink, turn_on, turn}
-use Rattle.column_search.specs.Laws.{Feasible, Agree, IfCut, IfTo, Inside}
+use Rattle.column_search.specs.Laws.{Feasible, Agree, Inside}
 use Rattle.column_search.specs.Loop.{Seen, Waiting, Looping, weight}
 use Rattle.column_search.proofs.Count.{loops}
 use Rattle.column_search.proofs.Kept.{cut_map}
@@ -145,13 +145,13 @@ turn_pruned col bound state i rest = go (hopeless col (limit bound state.error) 
     go false = refl
 
 -- what is left lies inside
-pruned_in : (col : Column) (z : Zeros) (b : ℕ) (i : Bound) → IfTo (Inside i) (pruned_of col z b i)
+pruned_in : (col : Column) (z : Zeros) (b : ℕ) (i : Bound) → Held (Inside i) (pruned_of col z b i)
 unfolding pruned_of
-pruned_in col z b i = by_test (IfTo (Inside i)) (hopeless col b i) (λ _. tt) (λ _. shrunk_in_lem col z b i)
+pruned_in col z b i = by_test (Held (Inside i)) (hopeless col b i) (λ _. tt) (λ _. shrunk_in_lem col z b i)
 
 -- the table serves as the evaluator
-pruned_same : (col : Column) (table : List ℕ) (z : Zeros) (b : ℕ) (i : Bound) → IfCut (Agree col (recorded table)) i.left
-    → IfCut (Agree col (recorded table)) i.right → pruned_of (column.recorded_column col.places table col.gap col.small) z b i ≡ pruned_of col z b i
+pruned_same : (col : Column) (table : List ℕ) (z : Zeros) (b : ℕ) (i : Bound) → Held (Agree col (recorded table)) i.left
+    → Held (Agree col (recorded table)) i.right → pruned_of (column.recorded_column col.places table col.gap col.small) z b i ≡ pruned_of col z b i
 unfolding pruned_of
 pruned_same col table z b i l r =
     sym (λ k. pick (same_hope col (recorded table) b i l r k) None (same_shrunk col (recorded table) z b i l r k))
@@ -219,9 +219,9 @@ module _ (s : Sheet) (t : Terms) (c : ℕ) (xs : List ℕ) (course : Course) (be
   waiting_head =
       (subst (All (Waiting col (first_at s t c) (last_at s t c) (limit t.bound state.error) state.tried)) queue_is stands.running.kept.queue).0
 
-  recalled : IfCut (Agree col (recorded (table_of s.rows xs))) b.left × IfCut (Agree col (recorded (table_of s.rows xs))) b.right
+  recalled : Held (Agree col (recorded (table_of s.rows xs))) b.left × Held (Agree col (recorded (table_of s.rows xs))) b.right
   recalled =
-      (subst (All (λ i. IfCut (Agree col (recorded (table_of s.rows xs))) i.left × IfCut (Agree col (recorded (table_of s.rows xs))) i.right))
+      (subst (All (λ i. Held (Agree col (recorded (table_of s.rows xs))) i.left × Held (Agree col (recorded (table_of s.rows xs))) i.right))
       queue_is
       (recalls col (recorded (table_of s.rows xs)) t.bound (first_at s t c) (last_at s t c) state stands.running.kept stands.matches.agrees)).0
 
@@ -283,7 +283,7 @@ module _ (s : Sheet) (t : Terms) (c : ℕ) (xs : List ℕ) (course : Course) (be
       → Attempting s t c xs (record { standing = course.standing; zeros = course.zeros; queue = others }) j
   unfolding standing_after_run
   attempting_next few j e =
-      let in_b : Inside b j = subst (IfTo (Inside b)) e (pruned_in col (zeros_of col state.tried) (limit t.bound state.error) b) in
+      let in_b : Inside b j = subst (Held (Inside b)) e (pruned_in col (zeros_of col state.tried) (limit t.bound state.error) b) in
       let rows : count_of s c < s.rows = (begun.whole.sound.column c begun.here).cuts.count_most in
       let run = waiting_head.run in
       record {
@@ -303,11 +303,11 @@ module _ (s : Sheet) (t : Terms) (c : ℕ) (xs : List ℕ) (course : Course) (be
         full = in_b.full;
         till = omega (arith, in_b.high, run.till, cuts_few, begun.some);
         left =
-            subst (IfCut (λ k. k < count_of s c)) (sym in_b.left)
+            subst (Held (λ k. k < count_of s c)) (sym in_b.left)
             (cut_map (λ k. (k < b.first) × Seen col (first_at s t c) (last_at s t c) (limit t.bound state.error) state.tried k) (λ k. k < count_of s c)
             (λ k h. seen_in k h.1) b.left waiting_head.left);
         right =
-            subst (IfCut (λ k. k < count_of s c)) (sym in_b.right)
+            subst (Held (λ k. k < count_of s c)) (sym in_b.right)
             (cut_map (λ k. (b.last ≤ k) × Seen col (first_at s t c) (last_at s t c) (limit t.bound state.error) state.tried k) (λ k. k < count_of s c)
             (λ k h. seen_in k h.1) b.right waiting_head.right);
         zero =

@@ -9,12 +9,12 @@ use Rattle.leaves_score.specs.Root.{errors_at}
 use Rattle.interval_pruner.specs.declared.Bound.{Bound}
 use Rattle.interval_pruner.specs.declared.Zeros.{Zeros}
 use Rattle.interval_pruner.specs.Column.{recorded}
-use Rattle.interval_pruner.specs.Pruner.{zeros_after, recorded_after}
+use Rattle.interval_pruner.specs.Pruner.{zeros_after, recorded_after, Held}
 use Rattle.interval_queue.specs.declared.Popped.{Popped}
 use Rattle.interval_queue.specs.Ring.{contents, taken}
 use Rattle.interval_queue.specs.Laws.{Sane}
 use Rattle.column_search.specs.Search.{State, zeros_of, try_cut}
-use Rattle.column_search.specs.Laws.{Agree, IfCut}
+use Rattle.column_search.specs.Laws.{Agree}
 use Rattle.column_search.specs.Loop.{Running, weight}
 use Rattle.column_turns.specs.declared.interval_steps.Standing.{Standing}
 use Rattle.column_turns.specs.declared.Course.{Course}
@@ -79,8 +79,8 @@ pub record Attempting (s : Sheet) (t : Terms) (c : ℕ) (scratch : List ℕ) (co
   pub enough : Enough s.rows scratch
   pub full : i.first ≤ i.last
   pub till : i.last < count_of s c
-  pub left : IfCut (λ k. k < count_of s c) i.left
-  pub right : IfCut (λ k. k < count_of s c) i.right
+  pub left : Held (λ k. k < count_of s c) i.left
+  pub right : Held (λ k. k < count_of s c) i.right
   pub zero : CutsNumbered (count_of s c) course.zeros.left
   pub sane : Sane (ring_of s.rows scratch) course.queue
   pub room : course.queue.waiting + 2 ≤ s.rows

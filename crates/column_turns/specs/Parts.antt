@@ -7,18 +7,18 @@ use Rattle.interval_pruner.specs.declared.Bound.{Bound}
 use Rattle.interval_pruner.specs.declared.Zeros.{Zeros}
 use Rattle.interval_pruner.specs.declared.Parts.{Parts}
 use Rattle.interval_pruner.specs.Column as column
-use Rattle.interval_pruner.specs.Pruner.{parts_of, Held as HeldCut}
+use Rattle.interval_pruner.specs.Pruner.{parts_of, Held}
 use Rattle.interval_queue.specs.declared.Queue.{Queue}
 use Rattle.interval_queue.specs.Ring.{contents}
 use Rattle.interval_queue.specs.Laws.{Sane, SmallBound}
 use Rattle.column_search.specs.Search.{part, upper_part, lower_part}
-use Rattle.column_search.specs.Laws.{IfCut}
+
 use Rattle.column_turns.specs.declared.interval_steps.Reach.{Reach}
 use Rattle.column_turns.specs.Lent.{table_of, ring_of, Enough, RestKept}
 
 -- a cut of a list of n, if there is one
 abbrev pub CutsNumbered : ℕ → Option ℕ → Type 0
-CutsNumbered n t = HeldCut (λ k. k < n) t
+CutsNumbered n t = Held (λ k. k < n) t
 
 -- step 5 by the cuts' places, for a try of that error
 unfoldable pub parts_queued : List ℕ → ℕ → Bool → Zeros → ℕ → ℕ → Bound → List Bound
@@ -60,8 +60,8 @@ pub record PartsWaiting (rows : ℕ) (places : List ℕ) (zeros : Zeros) (i : Bo
   pub from_first : i.first ≤ cut
   pub to_last : cut ≤ i.last
   pub placed : 1 ≤ place places cut
-  pub left : IfCut (λ k. k < length places) i.left
-  pub right : IfCut (λ k. k < length places) i.right
+  pub left : Held (λ k. k < length places) i.left
+  pub right : Held (λ k. k < length places) i.right
   pub zero : CutsNumbered (length places) zeros.left
   pub sane : Sane (ring_of rows scratch) queue
   pub room : queue.waiting + 2 ≤ rows

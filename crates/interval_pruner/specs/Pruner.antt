@@ -1,6 +1,6 @@
 -- For a signer. Steps 1, 2 and 5 of document 01's search. `b` is the document's B, the smaller of the current error and the upper bound.
 -- Definitions only.
-use Rattle.std.specs.Prelude.{ℕ, suc, ◌+◌, ◌-◌, ◌*◌, ◌<◌, min, max, Bool, ◌&&◌, List, length, set, leb, ltb, eqb, Option, Some, None}
+use Rattle.std.specs.Prelude.{ℕ, suc, ◌+◌, ◌-◌, ◌*◌, ◌<◌, min, max, Bool, ◌&&◌, List, length, set, leb, ltb, eqb, Option, Some, None, IfSome}
 use Rattle.basics.specs.Choice.{pick}
 use Rattle.cuts.specs.Lookups.{Ascending, at_least, above, first_from, sought_from}
 use Rattle.interval_pruner.specs.declared.Bound.{Bound}
@@ -11,9 +11,8 @@ use Rattle.interval_pruner.specs.Column.{Column, place_in, left_error, right_err
 -- ---- what was tried
 
 -- if there is one, it is such
-abbrev pub Held : (ℕ → Type 0) → Option ℕ → Type 0
-Held P None = Unit {0}
-Held P (Some k) = P k
+abbrev pub Held : {T : Type 0} → (T → Type 0) → Option T → Type 0
+Held P o = IfSome o P
 
 -- "the highest tried cut with left error 0", "the lowest with right error 0": after one more cut that is such
 unfoldable pub highest_zero : ℕ → Option ℕ → Option ℕ

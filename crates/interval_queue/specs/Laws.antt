@@ -2,6 +2,7 @@
 -- proves them.
 use Rattle.std.specs.Prelude.{◌≡◌, ℕ, ◌≤◌, ◌<◌, List, [], ◌∷◌, ◌++◌, Option, Some, None}
 use Rattle.interval_pruner.specs.declared.Bound.{Bound}
+use Rattle.interval_pruner.specs.Pruner.{Held}
 use Rattle.interval_queue.specs.declared.Queue.{Queue}
 use Rattle.interval_queue.specs.Ring.{largest_word, slots_of, contents, pushed, pushed_words, popped, taken}
 
@@ -11,8 +12,7 @@ pub record Sane (words : List ℕ) (q : Queue) : Type 0 where
 
 -- its numbers fit words
 abbrev pub SmallCut : Option ℕ → Type 0
-SmallCut None = Unit {0}
-SmallCut (Some k) = k < largest_word
+SmallCut t = Held (λ k. k < largest_word) t
 
 pub record SmallBound (i : Bound) : Type 0 where
   pub first : i.first ≤ largest_word
