@@ -21,7 +21,6 @@ use Rattle.interval_queue.specs.Ring.{slots_of, contents, full, pushed, pushed_w
 use Rattle.interval_queue.specs.Laws.{Sane, SmallCut}
 use Rattle.interval_queue.proofs.Waiting.{push_appends}
 use Rattle.column_search.specs.Search.{part, upper_part, lower_part}
-
 use Rattle.column_search.proofs.Steps.{sides}
 use Rattle.column_turns.specs.Lent.{table_of, ring_of, Enough}
 use Rattle.column_turns.specs.Ready.{Became}

@@ -12,7 +12,6 @@ use Rattle.interval_queue.specs.declared.Queue.{Queue}
 use Rattle.interval_queue.specs.Ring.{contents}
 use Rattle.interval_queue.specs.Laws.{Sane, SmallBound}
 use Rattle.column_search.specs.Search.{part, upper_part, lower_part}
-
 use Rattle.column_turns.specs.declared.interval_steps.Reach.{Reach}
 use Rattle.column_turns.specs.Lent.{table_of, ring_of, Enough, RestKept}
 

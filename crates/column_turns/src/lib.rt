@@ -289,18 +289,10 @@ fn begin_column(
         left: None,
         right: None,
     };
-    let none = Queue {
-        head: 0,
-        waiting: 0,
-    };
-    let queue = queue_part(rows, none, all, scratch);
-    let zeros = Zeros {
-        left: None,
-        right: None,
-    };
+    let queue = queue_part(rows, Queue::default(), all, scratch);
     Course {
         standing,
-        zeros,
+        zeros: Zeros::default(),
         queue,
     }
 }

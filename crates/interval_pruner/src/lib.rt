@@ -20,7 +20,7 @@ pub struct Bound {
 }
 
 // The highest tried cut with left error 0, and the lowest with right error 0.
-#[derive(Clone, Copy)]
+#[derive(Clone, Copy, Default)]
 pub struct Zeros {
     pub left: Option<usize>,
     pub right: Option<usize>,

@@ -1,6 +1,6 @@
 -- For a signer. A queue in good order, and what push and pop do to the list of intervals that wait. Statements only; `proofs/Waiting.antt`
 -- proves them.
-use Rattle.std.specs.Prelude.{◌≡◌, ℕ, ◌≤◌, ◌<◌, List, [], ◌∷◌, ◌++◌, Option, Some, None}
+use Rattle.std.specs.Prelude.{◌≡◌, ℕ, ◌≤◌, ◌<◌, List, [], ◌∷◌, ◌++◌, Option, Some}
 use Rattle.interval_pruner.specs.declared.Bound.{Bound}
 use Rattle.interval_pruner.specs.Pruner.{Held}
 use Rattle.interval_queue.specs.declared.Queue.{Queue}

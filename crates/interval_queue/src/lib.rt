@@ -7,7 +7,7 @@ ghost use Rattle.interval_queue.specs.Ring.{slot_of, word_of, word_of_tried, tri
 use interval_pruner::Bound;
 
 // Where the first interval stands, and how many wait.
-#[derive(Clone, Copy)]
+#[derive(Clone, Copy, Default)]
 pub struct Queue {
     pub head: usize,
     pub waiting: usize,
