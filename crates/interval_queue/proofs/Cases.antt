@@ -9,7 +9,7 @@ use Rattle.basics.proofs.Choice.{order, pick_true, pick_false, or_left, or_right
 use Rattle.interval_pruner.specs.declared.Bound.{Bound}
 use Rattle.interval_queue.specs.declared.Queue.{Queue}
 use Rattle.interval_queue.specs.declared.Popped.{Popped}
-use Rattle.interval_queue.specs.Ring.{tried_in, slots_of, slot_of, stored, loaded, full, empty, empty_bound, pushed, pushed_words, popped, taken}
+use Rattle.interval_queue.specs.Ring.{tried_in, slots_of, slot_of, stored, loaded, full, empty, pushed, pushed_words, popped, taken}
 
 -- a word read back as a remembered cut
 pub tried_none : (w : ℕ) → w ≡ 0 → tried_in w ≡ None
@@ -39,10 +39,6 @@ module _ (words : List ℕ) (q : Queue) where
   push_out h =
       pick_true (full words q) _ _ (or_left (leb (slots_of words) q.head) (leb (slots_of words) q.waiting) (le→leb (slots_of words) q.head h))
 
-  pub pop_out : slots_of words ≤ q.head → popped words q ≡ record { bound = empty_bound; queue = q }
-  unfolding popped
-  pop_out h = pick_true (empty words q) _ _ (or_left (leb (slots_of words) q.head) (eqb q.waiting 0) (le→leb (slots_of words) q.head h))
-
   pub push_out_words : (i : Bound) → slots_of words ≤ q.head → pushed_words words q i ≡ words
   unfolding pushed_words
   push_out_words i h =
@@ -70,10 +66,6 @@ module _ (words : List ℕ) (q : Queue) where
   push_room_words i h k =
       pick_false (full words q) _ _
       (nor_both (leb (slots_of words) q.head) (leb (slots_of words) q.waiting) (nleb (slots_of words) q.head h) (nleb (slots_of words) q.waiting k))
-
-  pub pop_none : q.waiting ≡ 0 → popped words q ≡ record { bound = empty_bound; queue = q }
-  unfolding popped
-  pop_none h = pick_true (empty words q) _ _ (or_right (leb (slots_of words) q.head) (eqb q.waiting 0) (eqb_yes q.waiting 0 h))
 
   pub pop_some : q.head < slots_of words → 0 < q.waiting
       → popped words q

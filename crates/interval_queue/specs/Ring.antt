@@ -77,7 +77,7 @@ popped words q =
       queue = record { head = slot_of q.head 1 (slots_of words); waiting = q.waiting - 1 };
     })
 
--- what is taken off: nothing where none waits
+-- what is taken off: nothing where none waits, or the head is no slot
 unfoldable pub taken : List ℕ → Queue → Option Popped
 taken words q = pick (empty words q) None (Some (popped words q))
 

@@ -109,7 +109,7 @@ pub fn push(words: &mut [u32], queue: Queue, bound: Bound) -> Queue
     }
 }
 
-// The first interval off the queue; none where none waits.
+// The first interval off the queue; none where none waits, or the head is no slot.
 pub fn pop(words: &[u32], queue: Queue) -> Option<Popped>
     ensures { result ≡ taken words.now queue }
 {
