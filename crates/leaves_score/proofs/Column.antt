@@ -70,7 +70,7 @@ module _ (s : Sheet) (r : ℕ) (rs : List ℕ) (t : SideScan) (h : SideKept s (r
   fits e = (h.live (subst (λ (b : Bool). T (not b)) (sym e) tt)).fits
 
   -- an open side can take the row
-  pub can_take : t.closed ≡ false → label_of s r < s.labels → Ready t (label_of s r)
+  can_take : t.closed ≡ false → label_of s r < s.labels → Ready t (label_of s r)
   can_take e k =
       let f : Fits s (r ∷ rs) t = fits e in
       record {
@@ -149,7 +149,7 @@ module _ (s : Sheet) (marks : List ℕ) (c : ℕ) where
         abbrev row : ℕ
         row = row_at s c i
 
-        pub here : SideKept s (row ∷ to_come side (i + 1)) (side_at sides side)
+        here : SideKept s (row ∷ to_come side (i + 1)) (side_at sides side)
         here = subst (λ (rs : List ℕ). SideKept s rs (side_at sides side)) (own_rows i more side in_two side_is) (h.each side in_two)
 
         -- the row's side has moved on, the other is where it was
@@ -158,7 +158,7 @@ module _ (s : Sheet) (marks : List ℕ) (c : ℕ) where
           pub at : side_at sides' side ≡ row_step s c row (side_at sides side)
           pub elsewhere : (k : ℕ) → (k ≡ side → ⊥) → side_at sides' k ≡ side_at sides k
 
-        pub moved : (next : SideScan) → next ≡ row_step s c row (side_at sides side) → Moved (set sides side next)
+        moved : (next : SideScan) → next ≡ row_step s c row (side_at sides side) → Moved (set sides side next)
         moved next e =
             let g = set_at sides side next no_side h.two in_two in
             record { two = g.two; at = g.at ∙ e; elsewhere = g.elsewhere }
@@ -191,7 +191,7 @@ module _ (s : Sheet) (marks : List ℕ) (c : ℕ) where
                   ≡ pick (ended (step_both s (go_left marks) c row (both_of sides))) (step_both s (go_left marks) c row (both_of sides)) (rest (step_both s (go_left marks) c row (both_of sides)))
               unrolled = unfold scan_rows in rw add-one
 
-          pub each_next : (k : ℕ) → k < 2 → SideKept s (to_come k (i + 1)) (side_at sides' k)
+          each_next : (k : ℕ) → k < 2 → SideKept s (to_come k (i + 1)) (side_at sides' k)
           each_next k l = decide (eqb k side) (λ t. itself k (eqb→eq k side t)) (λ t. another k l (neqb k side t))
             where
               itself : (k : ℕ) → k ≡ side → SideKept s (to_come k (i + 1)) (side_at sides' k)
@@ -201,11 +201,11 @@ module _ (s : Sheet) (marks : List ℕ) (c : ℕ) where
               another k l e = rw (m.elsewhere k e, ← other_rows i more side in_two side_is k l e) (h.each k l)
 
           -- the column ends
-          pub over : ended now ≡ true → now ≡ target
+          over : ended now ≡ true → now ≡ target
           over e = sym (pick_true (ended now) now (rest now) (subst T (sym e) tt)) ∙ turn
 
           -- or goes on
-          pub on : ended now ≡ false → Along (i + 1) sides'
+          on : ended now ≡ false → Along (i + 1) sides'
           on e =
               record {
                 within = omega arith;
@@ -216,14 +216,14 @@ module _ (s : Sheet) (marks : List ℕ) (c : ℕ) where
               }
 
           -- it does if the row's side is open and its skip short
-          pub not_ended : ((side_at sides' side).closed || idle (side_at sides' side)) ≡ false → ended now ≡ false
+          not_ended : ((side_at sides' side).closed || idle (side_at sides' side)) ≡ false → ended now ≡ false
           not_ended e =
               by_two (λ k. ((side_at sides' k).closed || idle (side_at sides' k)) ≡ false → ended now ≡ false) side in_two
               (λ e. same_bool (ended now) false (λ t. subst T e (ended_left now t)) (λ t. absurd t))
               (λ e. same_bool (ended now) false (λ t. subst T e (ended_right now t)) (λ t. absurd t)) e
 
         -- a row of a closed side changes nothing
-        pub stays : (side_at sides side).closed ≡ true → Along (i + 1) sides
+        stays : (side_at sides side).closed ≡ true → Along (i + 1) sides
         stays e =
             on sides
             (record {
@@ -260,7 +260,7 @@ module _ (s : Sheet) (marks : List ℕ) (c : ℕ) (b : Two) (h : ReadyColumn s m
           (λ y. absurd (omega (arith, leb→le (rows_left (side_at sides k)) (side_at sides k).skip y, none, (fits s (row_at s c 0) (to_come s marks c k 1) (side_at sides k) here_kept shut).rows)))
           (λ y. absurd y)
 
-  pub opens : length sides ≡ 2 → Along s marks c (scan_rows s (go_left marks) c s.rows 0 (both_of sides)) 0 sides
+  opens : length sides ≡ 2 → Along s marks c (scan_rows s (go_left marks) c s.rows 0 (both_of sides)) 0 sides
   opens two =
       record {
         within = omega arith;
@@ -283,7 +283,7 @@ module _ (s : Sheet) (marks : List ℕ) (c : ℕ) (b : Two) (h : ReadyColumn s m
       fresh k t e = ap (λ (t : SideScan). t.skip) e ∙ unfold restarted in refl
 
   -- and what its rows leave is what the column leaves
-  pub leaves : scan_rows s (go_left marks) c s.rows 0 (both_of sides) ≡ scan_column s (go_left marks) c b
+  leaves : scan_rows s (go_left marks) c s.rows 0 (both_of sides) ≡ scan_column s (go_left marks) c b
   unfolding scan_column
   leaves = ap₂ (λ (l r : SideScan). scan_rows s (go_left marks) c s.rows 0 (record { left = l; right = r })) left_is right_is
 

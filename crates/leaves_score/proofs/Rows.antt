@@ -66,7 +66,7 @@ module _ (codes : List ℕ) (mine : ℕ → Bool) where
   pub none_yet : Tallied 0 no_rows 0
   none_yet = record { long = length-replicate {A = ℕ} most_labels 0; each = λ l h. none_at l h; all = refl }
 
-  pub one_more : (n : ℕ) (own : List ℕ) (size label : ℕ) → mine n ≡ true → label ≡ get_or codes n 0 → Tallied n own size → Tallied (n + 1) (raised own label) (size + 1)
+  one_more : (n : ℕ) (own : List ℕ) (size label : ℕ) → mine n ≡ true → label ≡ get_or codes n 0 → Tallied n own size → Tallied (n + 1) (raised own label) (size + 1)
   one_more n own size label m e t =
       record {
         long = raised_long own label ∙ t.long;
@@ -85,7 +85,7 @@ module _ (codes : List ℕ) (mine : ℕ → Bool) where
             ap (λ (x : ℕ). bit (eqb x l)) e,
           )
 
-  pub none_more : (n : ℕ) (own : List ℕ) (size : ℕ) → mine n ≡ false → Tallied n own size → Tallied (n + 1) own size
+  none_more : (n : ℕ) (own : List ℕ) (size : ℕ) → mine n ≡ false → Tallied n own size → Tallied (n + 1) own size
   none_more n own size m t =
       record {
         long = t.long;
@@ -94,13 +94,13 @@ module _ (codes : List ℕ) (mine : ℕ → Bool) where
       }
 
   module _ (n : ℕ) (own : List ℕ) (size : ℕ) (t : Tallied n own size) where
-    pub count_low : (l : ℕ) → l < most_labels → get_or own l 0 ≤ n
+    count_low : (l : ℕ) → l < most_labels → get_or own l 0 ≤ n
     count_low l h = omega (arith, t.each l h, tally_le (of_label l) (table (λ r. r) n), length_table (λ (r : ℕ). r) n)
 
-    pub size_low : size ≤ n
+    size_low : size ≤ n
     size_low = omega (arith, t.all, tally_le mine (table (λ r. r) n), length_table (λ (r : ℕ). r) n)
 
-    pub own_is : own ≡ own_of (rows_only n codes) mine
+    own_is : own ≡ own_of (rows_only n codes) mine
     unfolding own_of labelled label_of
     own_is =
         ext_get_or {A = ℕ} 0 own (table (labelled (rows_only n codes) mine) most_labels) (t.long ∙ sym (length_table (labelled (rows_only n codes) mine) most_labels))
@@ -109,7 +109,7 @@ module _ (codes : List ℕ) (mine : ℕ → Bool) where
         within : (l : ℕ) → l < length own → l < most_labels
         within l h = omega (arith, t.long)
 
-    pub size_is : size ≡ rows_at (rows_only n codes) mine
+    size_is : size ≡ rows_at (rows_only n codes) mine
     unfolding rows_at
     size_is = t.all
 

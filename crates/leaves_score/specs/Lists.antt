@@ -1,20 +1,14 @@
 -- For a signer. What the scan reads of the lent lists, and what it asks of them: facts that an accepted sheet has. Definitions and statements only.
-use Rattle.std.specs.Prelude.{◌≡◌, ℕ, ◌*◌, ◌≤◌, ◌<◌, Bool, List, [], length, get_or, eqb, Float}
+use Rattle.std.specs.Prelude.{◌≡◌, ℕ, ◌*◌, ◌≤◌, ◌<◌, Bool, List, [], length, get_or, eqb}
 use Rattle.basics.specs.Lists.{tally}
-use Rattle.sheet.specs.declared.Size.{Size}
 use Rattle.sheet.specs.Sheet.{Sheet, label_of, row_at, every_row, order_of}
 use Rattle.sheet.specs.Sound.{Limited}
-
--- the sheet that a scan reads: cuts are no part of it
-abbrev pub scan_sheet : Size → List Float → List ℕ → List ℕ → Sheet
-scan_sheet size values codes order =
-    record { rows = size.rows; columns = size.columns; labels = size.labels; values = values; codes = codes; order = order; cuts = []; counts = [] }
 
 -- a row whose mark is 0 goes left
 abbrev pub go_left : List ℕ → ℕ → Bool
 go_left marks r = eqb (get_or marks r 0) 0
 
--- the same, of a sheet with its cuts; `proofs/Accepted.antt` shows that a scan answers the same
+-- the sheet that a scan reads: cuts are no part of it, and `proofs/Accepted.antt` shows that it answers the same with them
 abbrev pub scan_of : Sheet → Sheet
 scan_of s =
     record { rows = s.rows; columns = s.columns; labels = s.labels; values = s.values; codes = s.codes; order = s.order; cuts = []; counts = [] }

@@ -2,7 +2,7 @@
 #![tactic(auto)]
 
 mod column_scan;
-pub mod two_sides;
+mod two_sides;
 
 ghost use Rattle.std.specs.Prelude.{◌≡◌};
 ghost use Rattle.sheet.specs.Lent.{sheet_in};

@@ -9,7 +9,7 @@ pub(crate) const SIDES: usize = 2;
 
 // The rows of a side: how many of each label, and how many in all.
 #[derive(Clone, Copy)]
-pub struct Part {
+pub(crate) struct Part {
     pub own: [u16; MOST_LABELS],
     pub size: u32,
 }

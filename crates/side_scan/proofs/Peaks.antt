@@ -5,15 +5,12 @@ use native.Mathlib.Omega.{arith}
 use Rattle.sheet.specs.Limits.{most_rows}
 use Rattle.side_scan.specs.declared.SideScan.{SideScan}
 use Rattle.side_scan.specs.declared.best_counts.Peaks.{Peaks}
-use Rattle.side_scan.specs.Counts.{Countable, peaks_of}
+use Rattle.side_scan.specs.Counts.{peaks_of}
 use Rattle.side_scan.specs.OneSide.{counted_of, later, rows_left, peaks_at}
 use Rattle.side_scan.specs.Step.{Cuttable}
 use Rattle.side_scan.proofs.Commonest.{most_under}
 
 module _ (t : SideScan) (h : Cuttable t) where
-  pub countable : Countable t.own t.seen t.labels
-  countable = record { some = h.some; few = h.few; within = h.own }
-
   module _ (p : Peaks) (e : p ≡ peaks_at t) where
     -- no label has more rows than there are before the cut, or from it on
     pub before_in : p.before.count ≤ t.counted

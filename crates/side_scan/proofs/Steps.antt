@@ -7,16 +7,15 @@ use Rattle.std.specs.Prelude.{unwrap_or}
 use Rattle.basics.specs.Choice.{pick}
 use Rattle.side_scan.specs.declared.cut_score.Best.{Best}
 use Rattle.side_scan.specs.declared.SideScan.{SideScan}
-use Rattle.side_scan.specs.declared.best_counts.Peaks.{Peaks}
+use Rattle.side_scan.specs.declared.cut_score.Cut.{Cut}
 use Rattle.side_scan.specs.declared.cut_score.CutVerdict.{CutVerdict}
 use Rattle.side_scan.specs.Scored.{fallen, quiet_by, verdict_of, split_by}
-use Rattle.side_scan.specs.OneSide.{nought, quiet, rows_left, peaks_at, best_after, cut_scored, count_row, only_counted, scored, step_of}
+use Rattle.side_scan.specs.OneSide.{nought, quiet, cut_at, best_after, cut_scored, count_row, only_counted, scored, step_of}
 
-pub scored_is : (t : SideScan) (column : ℕ) (value : Float) (p : Peaks) (v : CutVerdict) (b : Best) → p ≡ peaks_at t
-    → v ≡ verdict_of p t.counted (rows_left t) t.least t.best.score t.skip
-    → b ≡ pick v.taken (split_by p t.counted (rows_left t) column (unwrap_or t.previous nought) value) t.best
+pub scored_is : (t : SideScan) (column : ℕ) (value : Float) (k : Cut) (v : CutVerdict) (b : Best) → k ≡ cut_at t
+    → v ≡ verdict_of k t.least t.best.score t.skip → b ≡ pick v.taken (split_by k column (unwrap_or t.previous nought) value) t.best
     → ◌≡◌ {A = SideScan} (record t { best = b; skip = v.skip; closed = v.closed }) (cut_scored t column value)
-scored_is t column value p v b ep ev eb = cc
+scored_is t column value k v b ek ev eb = cc
 
 -- ---- a row, by the tests that it finds
 

@@ -7,6 +7,7 @@ use Rattle.tree.specs.declared.Side.{Side}
 use Rattle.tree.specs.declared.Side.TheVariants.{Leaf, Split}
 use Rattle.side_scan.specs.declared.best_counts.Peaks.{Peaks}
 use Rattle.side_scan.specs.declared.cut_score.Best.{Best}
+use Rattle.side_scan.specs.declared.cut_score.Cut.{Cut}
 use Rattle.side_scan.specs.declared.cut_score.CutVerdict.{CutVerdict}
 use Rattle.side_scan.specs.declared.SideScan.{SideScan}
 use Rattle.side_scan.specs.Commonest.{commonest, most_of}
@@ -82,12 +83,15 @@ rows_left t = t.size - t.counted
 abbrev pub peaks_at : SideScan → Peaks
 peaks_at t = peaks_of t.own t.seen t.labels
 
+abbrev pub cut_at : SideScan → Cut
+cut_at t = record { peaks = peaks_at t; counted = t.counted; rest = rows_left t }
+
 abbrev pub verdict_at : SideScan → CutVerdict
-verdict_at t = verdict_of (peaks_at t) t.counted (rows_left t) t.least t.best.score (fallen t.skip)
+verdict_at t = verdict_of (cut_at t) t.least t.best.score (fallen t.skip)
 
 -- a side's first row has no previous value, and the cut before it is never taken, since it leaves no row before it
 abbrev pub split_at : SideScan → ℕ → Float → Best
-split_at t column value = split_by (peaks_at t) t.counted (rows_left t) column (unwrap_or t.previous nought) value
+split_at t column value = split_by (cut_at t) column (unwrap_or t.previous nought) value
 
 -- the words that the laws of the scan use for their parts
 abbrev pub left_best : SideScan → ℕ
@@ -100,7 +104,7 @@ abbrev pub total_of : SideScan → ℕ
 total_of t = left_best t + right_best t
 
 abbrev pub supported : SideScan → Bool
-supported t = supported_by t.counted (rows_left t) t.least
+supported t = supported_by (cut_at t) t.least
 
 abbrev pub takes : SideScan → Bool
 takes t = (verdict_at t).taken
@@ -136,7 +140,7 @@ count_row t best skip closed label value =
 -- the cut before a row scored, where skip has fallen already; the row is still to be counted
 abbrev pub cut_scored : SideScan → ℕ → Float → SideScan
 cut_scored t column value =
-    let v : CutVerdict = verdict_of (peaks_at t) t.counted (rows_left t) t.least t.best.score t.skip in
+    let v : CutVerdict = verdict_of (cut_at t) t.least t.best.score t.skip in
     record t { best = pick v.taken (split_at t column value) t.best; skip = v.skip; closed = v.closed }
 
 unfoldable pub only_counted : SideScan → ℕ → Float → SideScan

@@ -2,27 +2,41 @@
 ghost use Rattle.std.specs.Prelude.{◌≡◌, ◌≤◌, ◌≤ℤ◌, pos};
 ghost use Rattle.sheet.specs.Limits.{most_labels};
 ghost use Rattle.side_scan.specs.Commonest.{no_label, run_on};
-ghost use Rattle.side_scan.specs.Counts.{Countable, peaks_of, peak_of};
+ghost use Rattle.side_scan.specs.Counts.{Countable, peaks_of, peak_of, leaf_by};
 
 use sheet::MOST_LABELS;
+use tree::Leaf;
 
 // A label, and how many rows it has.
 #[derive(Clone, Copy)]
-pub struct Peak {
+pub(crate) struct Peak {
     pub label: usize,
     pub count: u32,
 }
 
+impl Peak {
+    // A leaf of that label on that many rows.
+    pub(crate) fn leaf(self, rows: u32) -> Leaf
+        requires { self.count ≤ rows }
+        ensures { result ≡ leaf_by self rows }
+    {
+        Leaf {
+            label: self.label,
+            error: rows - self.count,
+        }
+    }
+}
+
 // The best counts of the labels before a cut and from it on.
 #[derive(Clone, Copy)]
-pub struct Peaks {
+pub(crate) struct Peaks {
     pub before: Peak,
     pub after: Peak,
 }
 
 // A running maximum over the labels' counts: the greatest so far, and the first label that has it.
 #[derive(Clone, Copy)]
-pub struct Run {
+pub(crate) struct Run {
     pub score: i32,
     pub label: usize,
 }

@@ -1,7 +1,7 @@
 // One cut of a side scored, by numbers: which rows are only counted, what the cut comes to, and the split that it makes.
-ghost use Rattle.std.specs.Prelude.{◌≡◌, ◌+◌, ◌-◌, ◌≤◌};
+ghost use Rattle.std.specs.Prelude.{◌≡◌, ◌≤◌};
 ghost use Rattle.sheet.specs.Limits.{most_rows};
-ghost use Rattle.side_scan.specs.Scored.{repeated, quiet_by, taken_by, closed_by, verdict_of, split_by};
+ghost use Rattle.side_scan.specs.Scored.{repeated, quiet_by, total_by, taken_by, closed_by, verdict_of, split_by};
 
 use crate::best_counts::Peaks;
 use tree::{Leaf, Question};
@@ -17,7 +17,7 @@ pub struct Best {
 
 // What a scored cut comes to: whether its split is taken, its total, the new skip, and whether the side closes.
 #[derive(Clone, Copy)]
-pub struct CutVerdict {
+pub(crate) struct CutVerdict {
     pub taken: bool,
     pub total: u32,
     pub skip: u32,
@@ -38,70 +38,71 @@ pub(crate) fn is_quiet(previous: Option<f64>, value: f64, skip: u32) -> bool
     is_same(previous, value) || 0 < skip
 }
 
-fn is_taken(counted: u32, rest: u32, least: u32, score: u32, total: u32) -> bool
-    ensures { result ≡ taken_by counted rest least score total }
-{
-    least <= counted && least <= rest && score < total
+// The cut before a row: the best counts about it, how many rows are before it, and how many from it on.
+#[derive(Clone, Copy)]
+pub(crate) struct Cut {
+    pub peaks: Peaks,
+    pub counted: u32,
+    pub rest: u32,
 }
 
-fn is_closed(after: u32, rest: u32, skip: u32) -> bool
-    ensures { result ≡ closed_by after rest skip }
-{
-    after == rest || rest <= skip
-}
-
-// The cut before a row, judged by numbers alone: `rest` counts the rows from it on, `skip` has fallen already.
-pub(crate) fn judge_cut(
-    peaks: Peaks,
-    counted: u32,
-    rest: u32,
-    least: u32,
-    score: u32,
-    skip: u32,
-) -> CutVerdict
-    requires { peaks.before.count + peaks.after.count ≤ most_rows }
-    ensures { result ≡ verdict_of peaks counted rest least score skip }
-{
-    let total = peaks.before.count + peaks.after.count;
-    let taken = is_taken(counted, rest, least, score, total);
-    let next = if taken {
-        skip
-    } else {
-        score.saturating_sub(total)
-    };
-    CutVerdict {
-        taken,
-        total,
-        skip: next,
-        closed: is_closed(peaks.after.count, rest, next),
+impl Cut {
+    fn total(self) -> u32
+        requires { total_by self ≤ most_rows }
+        ensures { result ≡ total_by self }
+    {
+        self.peaks.before.count + self.peaks.after.count
     }
-}
 
-// The split of a cut.
-pub(crate) fn split_of(
-    peaks: Peaks,
-    counted: u32,
-    rest: u32,
-    column: usize,
-    previous: f64,
-    value: f64,
-) -> Best
-    requires some_before { peaks.before.count ≤ counted }
-    requires some_after { peaks.after.count ≤ rest }
-    requires few { peaks.before.count + peaks.after.count ≤ most_rows }
-    ensures { result ≡ split_by peaks counted rest column previous value }
-{
-    let threshold = threshold::threshold_between(previous, value);
-    Best {
-        score: peaks.before.count + peaks.after.count,
-        question: Question { column, threshold },
-        left: Leaf {
-            label: peaks.before.label,
-            error: counted - peaks.before.count,
-        },
-        right: Leaf {
-            label: peaks.after.label,
-            error: rest - peaks.after.count,
-        },
+    fn is_taken(self, least: u32, score: u32) -> bool
+        requires { total_by self ≤ most_rows }
+        ensures { result ≡ taken_by self least score }
+    {
+        least <= self.counted && least <= self.rest && score < self.total()
+    }
+
+    fn is_closing(self, skip: u32) -> bool
+        ensures { result ≡ closed_by self skip }
+    {
+        self.peaks.after.count == self.rest || self.rest <= skip
+    }
+
+    // By numbers alone; `skip` has fallen already.
+    pub(crate) fn judge(self, least: u32, score: u32, skip: u32) -> CutVerdict
+        requires { total_by self ≤ most_rows }
+        ensures { result ≡ verdict_of self least score skip }
+    {
+        let total = self.total();
+        let taken = self.is_taken(least, score);
+        let next = if taken {
+            skip
+        } else {
+            score.saturating_sub(total)
+        };
+        CutVerdict {
+            taken,
+            total,
+            skip: next,
+            closed: self.is_closing(next),
+        }
+    }
+
+    // Its split.
+    #[tactic(auto, unfolding(crate::specs::Scored::split_by))]
+    pub(crate) fn split(self, column: usize, previous: f64, value: f64) -> Best
+        requires some_before { self.peaks.before.count ≤ self.counted }
+        requires some_after { self.peaks.after.count ≤ self.rest }
+        requires few { total_by self ≤ most_rows }
+        ensures { result ≡ split_by self column previous value }
+    {
+        let threshold = threshold::threshold_between(previous, value);
+        let left = self.peaks.before.leaf(self.counted);
+        let right = self.peaks.after.leaf(self.rest);
+        Best {
+            score: self.total(),
+            question: Question { column, threshold },
+            left,
+            right,
+        }
     }
 }

@@ -1,7 +1,7 @@
 // One side of a root split as the scan keeps it: its rows, the best question found, and what the next row of a column does to that.
 #![tactic(auto)]
 
-pub mod best_counts;
+mod best_counts;
 pub mod cut_score;
 
 ghost use Rattle.std.specs.Prelude.{◌≡◌, ◌≤◌, ◌<◌};
@@ -10,7 +10,7 @@ ghost use Rattle.side_scan.specs.OneSide.{counted_of, restarted, cut_scored, cou
 ghost use Rattle.side_scan.specs.Step.{Cuttable, Steppable, leaf_scan, SideSized};
 
 use crate::best_counts::{commonest_label, find_peaks};
-use crate::cut_score::{Best, is_quiet, judge_cut, split_of};
+use crate::cut_score::{Best, Cut, is_quiet};
 use sheet::MOST_LABELS;
 use tree::{Leaf, Question, Side};
 
@@ -37,7 +37,7 @@ impl SideScan {
         requires { (1 ≤ labels) × (labels ≤ most_labels) }
         ensures { result ≡ leaf_scan own size labels least }
     {
-        let leaf = commonest_label(&own, labels);
+        let commonest = commonest_label(&own, labels);
         let question = Question {
             column: 0,
             threshold: 0.0,
@@ -49,7 +49,7 @@ impl SideScan {
             labels,
             least,
             best: Best {
-                score: leaf.count,
+                score: commonest.count,
                 question,
                 left: none,
                 right: none,
@@ -63,6 +63,7 @@ impl SideScan {
     }
 
     // A side at the start of a column.
+    #[tactic(auto, unfolding(crate::specs::OneSide::restarted))]
     pub fn restart(&mut self)
         ensures { self.new ≡ restarted self.old }
     {
@@ -93,22 +94,18 @@ impl SideScan {
         requires { Cuttable self.old }
         ensures { self.new ≡ cut_scored self.old column value }
     {
-        let rest = self.size - self.counted;
-        let peaks = find_peaks(&self.own, &self.seen, self.labels);
-        let verdict = judge_cut(
-            peaks,
-            self.counted,
-            rest,
-            self.least,
-            self.best.score,
-            self.skip,
-        );
+        let cut = Cut {
+            peaks: find_peaks(&self.own, &self.seen, self.labels),
+            counted: self.counted,
+            rest: self.size - self.counted,
+        };
+        let verdict = cut.judge(self.least, self.best.score, self.skip);
         self.skip = verdict.skip;
         self.closed = verdict.closed;
         if verdict.taken {
             // a cut before the side's first row is never taken, as no row is before it
             let previous = self.previous.unwrap_or(0.0);
-            self.best = split_of(peaks, self.counted, rest, column, previous, value);
+            self.best = cut.split(column, previous, value);
         }
     }
 
@@ -128,12 +125,9 @@ impl SideScan {
         requires { SideSized self.now }
         ensures { result ≡ side_of self.now }
     {
-        let leaf = commonest_label(&self.own, self.labels);
-        if self.best.score == leaf.count {
-            return Side::Leaf(Leaf {
-                label: leaf.label,
-                error: self.size - leaf.count,
-            });
+        let commonest = commonest_label(&self.own, self.labels);
+        if self.best.score == commonest.count {
+            return Side::Leaf(commonest.leaf(self.size));
         }
         Side::Split {
             question: self.best.question,

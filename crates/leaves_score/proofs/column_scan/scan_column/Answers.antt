@@ -2,7 +2,6 @@
 use native.Mathlib.Omega.{arith}
 use mathlib.Core.Path.{◌∙◌}
 use Rattle.leaves_score.proofs.Column.{finished, opens_fresh, leaves_fresh, row_in, side_in, passed, taken, none_past, goes_on, ends}
-use Rattle.leaves_score.proofs.Places.{within_list}
 use Rattle.leaves_score.proofs.column_scan.scan_column.Goals as goal
 use Rattle.leaves_score.proofs.column_scan.scan_column.Goals.{then-not-sides-side+else-is_over, else-not-sides-side}
 
@@ -22,8 +21,7 @@ pub bounds-sides-side-then-not-sides-side : goal.bounds-sides-side-then-not-side
 bounds-sides-side-then-not-sides-side c = side_in _ _ _ _ c.requires _ _ _ c.loop-i.invariant c.loop-i-test.true _ c.from-row.ensures
 
 pub bounds-values-base : goal.bounds-values-base
-bounds-values-base c =
-    within_list _ _ _ _ (row_in _ _ _ _ c.requires _ _ _ c.loop-i.invariant c.loop-i-test.true _ c.from-row.ensures) c.requires.valued
+bounds-values-base c = omega (arith, row_in _ _ _ _ c.requires _ _ _ c.loop-i.invariant c.loop-i-test.true _ c.from-row.ensures, c.requires.valued)
 
 pub advance-requires : goal.advance-requires
 advance-requires c = taken _ _ _ _ c.requires _ _ _ c.loop-i.invariant c.loop-i-test.true _ c.from-row.ensures _ c.from-label.ensures

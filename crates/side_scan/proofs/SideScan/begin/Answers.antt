@@ -5,4 +5,4 @@ use Rattle.side_scan.proofs.SideScan.begin.Goals as goal
 
 pub returns : goal.returns
 unfolding peak_of of_bits
-returns c = rw c.commonest_label-leaf.ensures
+returns c = rw c.commonest_label-commonest.ensures
