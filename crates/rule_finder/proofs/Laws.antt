@@ -8,12 +8,14 @@ use mathlib.Core.List.{List, ◌++◌}
 use lib.ListN.{length, take, drop, length-append}
 use lib.Seq.{take-append_seam}
 use lib.Dec.{leb, le→leb}
+use Rattle.std.specs.Prelude.{Result, Ok, Err}
 use Rattle.basics.specs.Choice.{pick}
 use Rattle.basics.proofs.Choice.{pick_true}
 use Rattle.sheet.specs.Sheet.{Sheet}
 use Rattle.sheet.specs.declared.Terms.{Terms}
-use Rattle.sheet.specs.declared.Checked.TheVariants.{Accepted}
 use Rattle.sheet.specs.Check.{check_of}
+use Rattle.sheet.specs.Reasons.{number_of, reason_of}
+use Rattle.sheet.specs.declared.refusals.Refusal.{Refusal}
 use Rattle.tree.specs.declared.Answer.{Answer}
 use Rattle.tree.specs.declared.Answer.TheVariants.{TurnedBack}
 use Rattle.tree.specs.Answer.{turned_back}
@@ -21,22 +23,19 @@ use Rattle.depth2.specs.Search.{answer_holding, answer_after, search_of, searche
 use Rattle.listing.specs.Listing.{listing_of, longest, written_of, out_of}
 use Rattle.certificate.proofs.Sentences.{certified}
 use Rattle.sheet_bytes.specs.declared.Head.{Head}
-use Rattle.sheet_bytes.specs.declared.Read.{Read}
-use Rattle.sheet_bytes.specs.declared.Read.TheVariants as read
 use Rattle.sheet_bytes.specs.Read.{read_of}
 use Rattle.sheet_bytes.proofs.Stages as stages
-use Rattle.sheet_bytes.specs.Numbers.{terms_read}
 use Rattle.rule_finder.specs.Run.{sheet_read, answer_to, run_of, words_lent}
 use Rattle.rule_finder.specs.Laws.{NeverTurnedBack, RefusedExactly, EverySigned, WrittenWithin, TextWritten, RunsCoincide}
 use Rattle.rule_finder.proofs.Reading.{doubles, accepted}
 
 -- ---- the answer, by what the reader says
 
-pub refused : (bytes : List ℕ) (number place : ℕ) → read_of bytes ≡ read.Refused number place → run_of bytes ≡ TurnedBack number place
+pub refused : (bytes : List ℕ) (refusal : Refusal) → read_of bytes ≡ Err refusal → run_of bytes ≡ TurnedBack (number_of refusal.reason) refusal.place
 unfolding run_of answer_to
-refused bytes number place e = ap (answer_to bytes) e
+refused bytes refusal e = ap (answer_to bytes) e
 
-pub searched_of : (bytes : List ℕ) (h : Head) → read_of bytes ≡ read.Sheet h → run_of bytes ≡ search_of (sheet_read bytes h) (terms_read h) words_lent
+pub searched_of : (bytes : List ℕ) (h : Head) → read_of bytes ≡ Ok h → run_of bytes ≡ search_of (sheet_read bytes h) h.terms words_lent
 unfolding run_of answer_to
 searched_of bytes h e = ap (answer_to bytes) e
 
@@ -47,26 +46,35 @@ unfolding answer_holding
 no_reason s t p none = refl
 no_reason s t p (some cut) = refl
 
-not_back : (s : Sheet) (t : Terms) (words : ℕ) → check_of s t words ≡ Accepted → turned_back (search_of s t words) ≡ none
+not_back : (s : Sheet) (t : Terms) (words : ℕ) → check_of s t words ≡ Ok tt → turned_back (search_of s t words) ≡ none
 unfolding search_of answer_after
 not_back s t words e = ap (λ x. turned_back (answer_after s t x)) e ∙ no_reason s t (searched s t) (searched s t).best
 
 pub never_turned_back : NeverTurnedBack
 never_turned_back bytes h e =
-    ap turned_back (searched_of bytes h e) ∙ not_back (sheet_read bytes h) (terms_read h) words_lent (accepted bytes h (stages.accepted bytes h e))
+    ap turned_back (searched_of bytes h e) ∙ not_back (sheet_read bytes h) h.terms words_lent (accepted bytes h (stages.accepted bytes h e))
 
 -- ---- what is refused is what the reader refuses
 
-only : (bytes : List ℕ) (number place : ℕ) (r : Read) → read_of bytes ≡ r → run_of bytes ≡ TurnedBack number place → r ≡ read.Refused number place
-only bytes number place (read.Refused n p) e f =
-    let same : TurnedBack n p ≡ TurnedBack number place = sym (refused bytes n p e) ∙ f in cc
-only bytes number place (read.Sheet h) e f = absurd (never (ap turned_back (sym f) ∙ never_turned_back bytes h e))
+told : (bytes : List ℕ) (number place : ℕ) (r : Result Head Refusal) → read_of bytes ≡ r → reason_of r ≡ some (number, place)
+    → run_of bytes ≡ TurnedBack number place
+told bytes number place (Ok h) e f = absurd cc
+told bytes number place (Err refusal) e f =
+    let q : ◌≡◌ {A = ℕ × ℕ} (number_of refusal.reason, refusal.place) (number, place) = cc in
+    refused bytes refusal e ∙ ap (λ (k : ℕ × ℕ). TurnedBack k.0 k.1) q
+
+only : (bytes : List ℕ) (number place : ℕ) (r : Result Head Refusal) → read_of bytes ≡ r → run_of bytes ≡ TurnedBack number place
+    → reason_of r ≡ some (number, place)
+only bytes number place (Err refusal) e f =
+    let same : TurnedBack (number_of refusal.reason) refusal.place ≡ TurnedBack number place = sym (refused bytes refusal e) ∙ f in cc
+only bytes number place (Ok h) e f = absurd (never (ap turned_back (sym f) ∙ never_turned_back bytes h e))
   where
     never : ◌≡◌ {A = Option (ℕ × ℕ)} (some (number, place)) none → ⊥
-    never g = let z : ◌≡◌ {A = ℕ} 0 1 = cc in omega arith
+    never g = cc
 
 pub refused_exactly : RefusedExactly
-refused_exactly bytes number place = record { told = refused bytes number place; only = only bytes number place (read_of bytes) refl }
+refused_exactly bytes number place =
+    record { told = told bytes number place (read_of bytes) refl; only = only bytes number place (read_of bytes) refl }
 
 -- ---- the certificate
 
@@ -75,7 +83,7 @@ every_signed bytes h e =
     let a = stages.accepted bytes h e in
     record {
       accepted = accepted bytes h a;
-      certified = certified (sheet_read bytes h) (terms_read h) words_lent (doubles bytes h a) (run_of bytes) (searched_of bytes h e);
+      certified = certified (sheet_read bytes h) h.terms words_lent (doubles bytes h a) (run_of bytes) (searched_of bytes h e);
     }
 
 -- ---- the outcome

@@ -1,21 +1,23 @@
 -- A sheet that is read: the preparer takes its values, and the input check accepts it prepared. Assumes nothing.
-use mathlib.Core.Path.{◌≡◌, refl, sym, ◌∙◌, subst}
+use mathlib.Core.Path.{◌≡◌, refl, sym, ap, ◌∙◌, subst}
 use Prim.Native.Nat.{ℕ, zero, suc, ◌*◌, ◌≤◌, ◌<◌}
 use native.Mathlib.Omega.{arith}
 use native.Mathlib.Nat.{mul_comm}
-use mathlib.Core.Bool.{Bool, true, not, false}
+use mathlib.Core.Bool.{Bool, true, false}
 use mathlib.Core.List.{List}
 use lib.ListN.{length, get_or}
 use lib.Dec.{T, nleb→lt}
 use lib.Ieee.{Float, nan, binary64, fits}
 use lib.Ieee.Bits.{of_bits-fits}
 use borrow.Author.Tests.{eq-eqb}
+use Rattle.std.specs.Prelude.{Ok}
 use Rattle.basics.specs.Lists.{table}
+use Rattle.basics.proofs.Choice.{not_not}
 use Rattle.basics.proofs.Lists.{get_d_table, length_table}
 use Rattle.threshold.specs.Threshold.{within}
-use Rattle.sheet.specs.declared.Checked.TheVariants.{Accepted}
+use Rattle.sheet.specs.declared.Size.{Size}
+use Rattle.sheet.specs.declared.lent.Measured.{Measured}
 use Rattle.sheet.specs.Check.{grid_holds, check_of, first_bad_value}
-use Rattle.prepare.specs.declared.Prepared.TheVariants.{Done}
 use Rattle.prepare.specs.Prepared.{prepare_of, exact_room}
 use Rattle.prepare.specs.Laws.{Taken}
 use Rattle.prepare.proofs.Answering.{by_counts, stops_nowhere, answer_none}
@@ -24,7 +26,6 @@ use Rattle.sheet_bytes.specs.declared.Head.{Head}
 use Rattle.sheet_bytes.specs.Read.{head_cells, bits_of, value_read, code_of, values_of, codes_of, code_bad}
 use Rattle.sheet_bytes.specs.Laws as read
 use Rattle.sheet_bytes.proofs.Stages.{grid_held, labels_inside, terms_limited, small_accepted, valued_accepted}
-use Rattle.sheet_bytes.specs.Numbers.{terms_read}
 use Rattle.rule_finder.specs.Ready.{Prepares}
 use Rattle.rule_finder.specs.Run.{sheet_read, words_lent}
 
@@ -39,10 +40,6 @@ is_true : (b : Bool) → T b → b ≡ true
 is_true true t = refl
 is_true false t = elim t [ ]
 
-twice_not : (b : Bool) → T b → T (not (not b))
-twice_not true t = tt
-twice_not false t = elim t [ ]
-
 module _ (bytes : List ℕ) (h : Head) (a : read.Accepted bytes h) where
   abbrev values : List Float
   values = values_of bytes h
@@ -51,9 +48,9 @@ module _ (bytes : List ℕ) (h : Head) (a : read.Accepted bytes h) where
   unfolding values_of
   values_length = length_table (value_read bytes h) (head_cells h)
 
-  pub codes_length : length (codes_of bytes h) ≡ h.rows
+  pub codes_length : length (codes_of bytes h) ≡ h.size.rows
   unfolding codes_of
-  codes_length = length_table (code_of bytes h) h.rows
+  codes_length = length_table (code_of bytes h) h.size.rows
 
   -- bits are a double's, whatever they are
   pub doubles : (i : ℕ) → T (fits binary64 (get_or values i nan))
@@ -64,46 +61,48 @@ module _ (bytes : List ℕ) (h : Head) (a : read.Accepted bytes h) where
   unfolding values_of
   value_within i l = subst (λ (x : Float). T (within x)) (sym (get_d_table (value_read bytes h) (head_cells h) i nan l)) (valued_accepted bytes h a i l)
 
-  in_limits : grid_holds h.rows h.columns ≡ true
-  in_limits = is_true (grid_holds h.rows h.columns) (grid_held h a.size_good)
+  in_limits : grid_holds h.size.rows h.size.columns ≡ true
+  in_limits = is_true (grid_holds h.size.rows h.size.columns) (grid_held h a.size_good)
 
   abbrev cells : ℕ
-  cells = h.rows * h.columns
+  cells = h.size.rows * h.size.columns
 
-  exact : exact_room cells h.columns cells cells h.columns ≡ true
-  exact = sym (by_counts cells h.columns cells cells h.columns refl refl) ∙ eq-eqb h.columns h.columns refl
+  exact : exact_room cells h.size.columns cells cells h.size.columns ≡ true
+  exact = sym (by_counts cells h.size.columns cells cells h.size.columns refl refl) ∙ eq-eqb h.size.columns h.size.columns refl
 
   none_outside : length values ≤ first_bad_value values
   none_outside =
       let e =
       stops_nowhere values (length values)
-      (record { high = omega arith; before = λ j l. twice_not (within (get_or values j nan)) (value_within j (omega (arith, values_length))) })
+      (record { high = omega arith; before = λ j l. not_not (within (get_or values j nan)) (value_within j (omega (arith, values_length))) })
       (omega arith) in
       omega arith
 
   -- reasons 1, 2, 3 and 5 are passed: the reader asked for them, or the room is exact
-  done : Done ≡ prepare_of h.rows h.columns values cells cells h.columns
+  done : Ok tt ≡ prepare_of h.size.rows h.size.columns values cells cells h.size.columns
   done =
-      answer_none h.rows h.columns values cells cells h.columns in_limits (values_length ∙ mul_comm h.columns h.rows) exact none_outside
+      answer_none h.size.rows h.size.columns values cells cells h.size.columns in_limits (values_length ∙ mul_comm h.size.columns h.size.rows) exact none_outside
 
-  pub taken : Taken h.rows h.columns values
+  pub taken : Taken h.size.rows h.size.columns values
   taken = record { doubles = doubles; done = done }
 
-  pub prepares : Prepares h values
-  prepares =
+  pub prepares : (m : Measured) → m.size ≡ h.size → m.values.now ≡ values → Prepares m
+  prepares m e v =
+      let small = small_accepted bytes h a in
+      let all : length m.values.now ≡ cells = ap length v ∙ values_length ∙ mul_comm h.size.columns h.size.rows in
       record {
-        small = small_accepted bytes h a;
-        all = values_length;
-        done = subst (λ (n : ℕ). Done ≡ prepare_of h.rows h.columns values n n h.columns) (mul_comm h.rows h.columns) done;
+        columns_most = omega (arith, ap (λ (s : Size). s.columns) e, small.columns_most);
+        cells_most = omega (arith, ap length v, values_length, small.cells_most);
+        done = cc (done, all, e, v);
       }
 
-  code_low : (r : ℕ) → r < h.rows → get_or (codes_of bytes h) r 0 < h.labels
+  code_low : (r : ℕ) → r < h.size.rows → get_or (codes_of bytes h) r 0 < h.size.labels
   unfolding codes_of code_bad
   code_low r l =
-      subst (λ (n : ℕ). n < h.labels) (sym (get_d_table (code_of bytes h) h.rows r 0 l)) (nleb→lt h.labels (code_of bytes h r) (a.codes_good r l))
+      subst (λ (n : ℕ). n < h.size.labels) (sym (get_d_table (code_of bytes h) h.size.rows r 0 l)) (nleb→lt h.size.labels (code_of bytes h r) (a.codes_good r l))
 
-  pub accepted : check_of (sheet_read bytes h) (terms_read h) words_lent ≡ Accepted
+  pub accepted : check_of (sheet_read bytes h) h.terms words_lent ≡ Ok tt
   accepted =
       let labels = labels_inside h a.size_good in
-      never_refused h.rows h.columns h.labels values (codes_of bytes h) (terms_read h) words_lent taken labels.0 labels.1 codes_length
+      never_refused h.size.rows h.size.columns h.size.labels values (codes_of bytes h) h.terms words_lent taken labels.0 labels.1 codes_length
       code_low (terms_limited h a.terms_good) (omega (arith, (small_accepted bytes h a).rows_most))

@@ -5,11 +5,10 @@ use native.Mathlib.Omega.{arith}
 use mathlib.Core.List.{List}
 use lib.ListN.{length, take, replicate, length-replicate}
 use lib.Seq.{length-take-le}
-use lib.Ieee.{Float}
+use Rattle.std.specs.Prelude.{Ok}
 use Rattle.sheet.specs.Limits.{most_columns}
-use Rattle.prepare.specs.declared.Prepared.TheVariants.{Done}
+use Rattle.sheet.specs.declared.lent.Measured.{Measured}
 use Rattle.prepare.specs.Prepared.{prepare_of}
-use Rattle.sheet_bytes.specs.declared.Head.{Head}
 use Rattle.sheet_bytes.specs.Room.{most_cells}
 use Rattle.rule_finder.specs.Ready.{Prepares}
 
@@ -20,14 +19,14 @@ places count most = take count (replicate most 0)
 pub places_count : (count most : ℕ) → count ≤ most → length (places count most) ≡ count
 places_count count most h = length-take-le count (replicate most 0) (omega (arith, length-replicate {A = ℕ} most 0))
 
-module _ (h : Head) (values : List Float) (p : Prepares h values) where
-  pub cells_room : length (places (length values) most_cells) ≡ length values
-  cells_room = places_count (length values) most_cells (omega (arith, p.all, p.small.cells_most))
+module _ (m : Measured) (p : Prepares m) where
+  pub cells_room : length (places (length m.values.now) most_cells) ≡ length m.values.now
+  cells_room = places_count (length m.values.now) most_cells p.cells_most
 
-  pub columns_room : length (places h.columns most_columns) ≡ h.columns
-  columns_room = places_count h.columns most_columns p.small.columns_most
+  pub columns_room : length (places m.size.columns most_columns) ≡ m.size.columns
+  columns_room = places_count m.size.columns most_columns p.columns_most
 
   -- in that room the preparer does not turn back
-  pub room : Done ≡ prepare_of h.rows h.columns values (length (places (length values) most_cells)) (length (places (length values) most_cells)) (length (places h.columns most_columns))
+  pub room : Ok tt ≡ prepare_of m.size.rows m.size.columns m.values.now (length (places (length m.values.now) most_cells)) (length (places (length m.values.now) most_cells)) (length (places m.size.columns most_columns))
   room =
-      p.done ∙ sym (ap₂ (λ (cells columns : ℕ). prepare_of h.rows h.columns values cells cells columns) (cells_room ∙ p.all) columns_room)
+      p.done ∙ sym (ap₂ (λ (cells columns : ℕ). prepare_of m.size.rows m.size.columns m.values.now cells cells columns) cells_room columns_room)

@@ -10,15 +10,15 @@ use lib.ListN.{length, take}
 use lib.Seq.{length-take-le, take_all, get_or-take}
 use lib.Dec.{T, ltb, eqb, nltb→le}
 use borrow.Author.Tests.{lt-ltb, le-ltb}
+use Rattle.std.specs.Prelude.{Result, Ok, Err}
 use Rattle.basics.specs.Choice.{pick}
 use Rattle.basics.specs.Walk.{walk}
 use Rattle.basics.proofs.Choice.{order}
 use Rattle.sheet_bytes.specs.declared.Head.{Head}
-use Rattle.sheet_bytes.specs.declared.Read.{Read}
-use Rattle.sheet_bytes.specs.declared.Read.TheVariants.{Refused, Sheet}
 use Rattle.sheet_bytes.specs.Bytes.{Mark, number_at, marked, head_mark, row_mark}
-use Rattle.sheet_bytes.specs.Reasons.{head_wrong, sheet_large, row_wrong, bytes_left}
-use Rattle.sheet.specs.Reasons.{size_outside}
+use Rattle.sheet.specs.Reasons.{refused}
+use Rattle.sheet.specs.declared.refusals.Reason.TheVariants.{SizeOutside, HeadWrong, SheetLarge, RowWrong, BytesLeft}
+use Rattle.sheet.specs.declared.refusals.Refusal.{Refusal}
 use Rattle.sheet_bytes.specs.Room.{head_size, row_size, largest_sheet}
 use Rattle.sheet_bytes.specs.Read.{head_of, row_start, head_bad, size_bad, too_large, row_bad, further, first_bad, from_terms, from_end, from_rows, from_large, from_size, read_of}
 use Rattle.sheet_bytes.specs.Reading.{SmallHead}
@@ -28,7 +28,7 @@ use Rattle.rule_finder.specs.Laws.{NoneLonger, OneMoreSuffices}
 
 -- ---- a choice and a walk go by what they come to
 
-later : (b : Bool) (x y z : Read) → (T (not b) → y ≡ z) → pick b x y ≡ pick b x z
+later : (b : Bool) (x y z : Result Head Refusal) → (T (not b) → y ≡ z) → pick b x y ≡ pick b x z
 unfolding pick
 later true x y z e = refl
 later false x y z e = e tt
@@ -44,15 +44,15 @@ walk_same f g (suc n) k e =
 spread : (rows columns : ℕ) → rows * (3 + 8 * columns) ≡ 3 * rows + 8 * (columns * rows)
 spread rows columns = omega arith
 
-largest : (h : Head) → SmallHead h → row_start h.columns h.rows ≤ largest_sheet
+largest : (h : Head) → SmallHead h → row_start h.size.columns h.size.rows ≤ largest_sheet
 unfolding row_start
-largest h s = omega (arith, spread h.rows h.columns, s.rows_most, s.cells_most)
+largest h s = omega (arith, spread h.size.rows h.size.columns, s.rows_most, s.cells_most)
 
 pub none_longer : NoneLonger
 unfolding further
 none_longer bytes h e =
     let a = accepted bytes h e in
-    omega (arith, nltb→le (row_start h.columns h.rows) (length bytes) a.no_more, largest h (small_accepted bytes h a))
+    omega (arith, nltb→le (row_start h.size.columns h.size.rows) (length bytes) a.no_more, largest h (small_accepted bytes h a))
 
 starts_later : (columns a b : ℕ) → a ≤ b → row_start columns a ≤ row_start columns b
 unfolding row_start
@@ -96,44 +96,44 @@ module _ (bytes : List ℕ) (n : ℕ) (enough : largest_sheet < n) (long : n ≤
       (same_mark head_mark 0 (omega arith))
 
   module _ (h : Head) (s : SmallHead h) where
-    same_row : (row : ℕ) → row < h.rows → row_bad cut h row ≡ row_bad bytes h row
+    same_row : (row : ℕ) → row < h.size.rows → row_bad cut h row ≡ row_bad bytes h row
     unfolding row_bad
     same_row row l =
-        let ends = starts_later h.columns (suc row) h.rows (omega arith) in
+        let ends = starts_later h.size.columns (suc row) h.size.rows (omega arith) in
         let fits = largest h s in
         ap₂ (λ (a b : Bool). a || not b)
-        (le-ltb (length cut) (row_start h.columns (suc row)) (omega (arith, cut_length)) ∙ sym (le-ltb (length bytes) (row_start h.columns (suc row)) (omega arith)))
-        (same_mark row_mark (row_start h.columns row) (before row ends fits))
+        (le-ltb (length cut) (row_start h.size.columns (suc row)) (omega (arith, cut_length)) ∙ sym (le-ltb (length bytes) (row_start h.size.columns (suc row)) (omega arith)))
+        (same_mark row_mark (row_start h.size.columns row) (before row ends fits))
       where
-        before : (row : ℕ) → row_start h.columns (suc row) ≤ row_start h.columns h.rows → row_start h.columns h.rows ≤ largest_sheet
-            → row_start h.columns row + 1 < n
+        before : (row : ℕ) → row_start h.size.columns (suc row) ≤ row_start h.size.columns h.size.rows → row_start h.size.columns h.size.rows ≤ largest_sheet
+            → row_start h.size.columns row + 1 < n
         before row ends fits = unfold row_start in omega (arith, enough)
 
     same_end : from_end cut h ≡ from_end bytes h
     unfolding from_end further
     same_end =
         let fits = largest h s in
-        chosen (ltb (row_start h.columns h.rows) (length cut)) (Refused bytes_left 0) (from_terms cut h)
-        (lt-ltb (row_start h.columns h.rows) (length cut) (omega (arith, cut_length)))
-        ∙ sym (chosen (ltb (row_start h.columns h.rows) (length bytes)) (Refused bytes_left 0) (from_terms bytes h)
-        (lt-ltb (row_start h.columns h.rows) (length bytes) (omega arith)))
+        chosen (ltb (row_start h.size.columns h.size.rows) (length cut)) (Err (refused BytesLeft 0)) (from_terms cut h)
+        (lt-ltb (row_start h.size.columns h.size.rows) (length cut) (omega (arith, cut_length)))
+        ∙ sym (chosen (ltb (row_start h.size.columns h.size.rows) (length bytes)) (Err (refused BytesLeft 0)) (from_terms bytes h)
+        (lt-ltb (row_start h.size.columns h.size.rows) (length bytes) (omega arith)))
 
     same_rows : from_rows cut h ≡ from_rows bytes h
     unfolding from_rows first_bad
     same_rows =
-        ap₂ (λ (r : ℕ) (rest : Read). pick (ltb r h.rows) (Refused row_wrong r) rest)
-        (walk_same (row_bad cut h) (row_bad bytes h) h.rows 0 (λ j l k. same_row j (omega arith))) same_end
+        ap₂ (λ (r : ℕ) (rest : Result Head Refusal). pick (ltb r h.size.rows) (Err (refused RowWrong r)) rest)
+        (walk_same (row_bad cut h) (row_bad bytes h) h.size.rows 0 (λ j l k. same_row j (omega arith))) same_end
 
   same_size : (h : Head) → from_size cut h ≡ from_size bytes h
   unfolding from_size from_large
   same_size h =
-      later (size_bad h) (Refused size_outside 0) (from_large cut h) (from_large bytes h)
-      (λ good. later (too_large h) (Refused sheet_large 0) (from_rows cut h) (from_rows bytes h) (λ few. same_rows h (small_enough h good few)))
+      later (size_bad h) (Err (refused SizeOutside 0)) (from_large cut h) (from_large bytes h)
+      (λ good. later (too_large h) (Err (refused SheetLarge 0)) (from_rows cut h) (from_rows bytes h) (λ few. same_rows h (small_enough h good few)))
 
   same_read : read_of cut ≡ read_of bytes
   unfolding read_of
   same_read =
-      ap₂ (λ (b : Bool) (r : Read). pick b (Refused head_wrong 0) r) same_bad
+      ap₂ (λ (b : Bool) (r : Result Head Refusal). pick b (Err (refused HeadWrong 0)) r) same_bad
       (ap (from_size cut) same_head ∙ same_size (head_of bytes))
 
   -- such bytes are refused, so the answer goes by the reader's alone
@@ -141,9 +141,9 @@ module _ (bytes : List ℕ) (n : ℕ) (enough : largest_sheet < n) (long : n ≤
   unfolding run_of
   same_run = ap (answer_to cut) same_read ∙ go (read_of bytes) refl
     where
-      go : (r : Read) → read_of bytes ≡ r → answer_to cut r ≡ answer_to bytes r
-      go (Refused number place) e = unfold answer_to in refl
-      go (Sheet h) e = absurd (omega (arith, none_longer bytes h e, enough, long))
+      go : (r : Result Head Refusal) → read_of bytes ≡ r → answer_to cut r ≡ answer_to bytes r
+      go (Err refusal) e = unfold answer_to in refl
+      go (Ok h) e = absurd (omega (arith, none_longer bytes h e, enough, long))
 
 pub one_more_suffices : OneMoreSuffices
 one_more_suffices bytes =

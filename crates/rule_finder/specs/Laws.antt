@@ -1,42 +1,40 @@
 -- For a signer. What holds of the finder's answers, as statements; `proofs/` proves each.
-use Rattle.std.specs.Prelude.{◌≡◌, ℕ, ◌+◌, ◌≤◌, List, length, take}
-use Rattle.std.proofs.Math.Option.{none}
-use Rattle.sheet.specs.declared.Checked.TheVariants.{Accepted}
+use Rattle.std.specs.Prelude.{◌≡◌, ℕ, ◌+◌, ◌≤◌, List, length, take, Ok}
+use Rattle.std.proofs.Math.Option.{none, some}
+use Rattle.sheet.specs.Reasons.{reason_of}
 use Rattle.sheet.specs.Check.{check_of}
 use Rattle.tree.specs.declared.Answer.TheVariants.{TurnedBack}
 use Rattle.tree.specs.Answer.{turned_back}
 use Rattle.listing.specs.Listing.{listing_of, longest, ListedIn}
 use Rattle.certificate.specs.Certificate.{Certified}
 use Rattle.sheet_bytes.specs.declared.Head.{Head}
-use Rattle.sheet_bytes.specs.declared.Read.TheVariants.{Refused, Sheet}
 use Rattle.sheet_bytes.specs.Read.{read_of}
 use Rattle.sheet_bytes.specs.Room.{largest_sheet}
-use Rattle.sheet_bytes.specs.Numbers.{terms_read}
 use Rattle.rule_finder.specs.Run.{sheet_read, run_of, words_lent}
 
 -- "Order: 20, 1, 21, 22, 23, 4, 5, 6.": these are the reader's, and a sheet that is read is never turned back
 abbrev pub NeverTurnedBack : Type 0
-NeverTurnedBack = (bytes : List ℕ) (h : Head) → read_of bytes ≡ Sheet h → turned_back (run_of bytes) ≡ none
+NeverTurnedBack = (bytes : List ℕ) (h : Head) → read_of bytes ≡ Ok h → turned_back (run_of bytes) ≡ none
 
 -- so what is refused is just what the reader refuses, with its number and place
 pub record RefusedIf (bytes : List ℕ) (number place : ℕ) : Type 0 where
-  pub told : read_of bytes ≡ Refused number place → run_of bytes ≡ TurnedBack number place
-  pub only : run_of bytes ≡ TurnedBack number place → read_of bytes ≡ Refused number place
+  pub told : reason_of (read_of bytes) ≡ some (number, place) → run_of bytes ≡ TurnedBack number place
+  pub only : run_of bytes ≡ TurnedBack number place → reason_of (read_of bytes) ≡ some (number, place)
 
 abbrev pub RefusedExactly : Type 0
 RefusedExactly = (bytes : List ℕ) (number place : ℕ) → RefusedIf bytes number place
 
 -- the three sentences of the certificate, of the answer to a sheet that is read: the input check that they ask for accepts it
 pub record Signed (bytes : List ℕ) (h : Head) : Type 0 where
-  pub accepted : check_of (sheet_read bytes h) (terms_read h) words_lent ≡ Accepted
-  pub certified : Certified (sheet_read bytes h) (terms_read h) words_lent (run_of bytes)
+  pub accepted : check_of (sheet_read bytes h) h.terms words_lent ≡ Ok tt
+  pub certified : Certified (sheet_read bytes h) h.terms words_lent (run_of bytes)
 
 abbrev pub EverySigned : Type 0
-EverySigned = (bytes : List ℕ) (h : Head) → read_of bytes ≡ Sheet h → Signed bytes h
+EverySigned = (bytes : List ℕ) (h : Head) → read_of bytes ≡ Ok h → Signed bytes h
 
 -- nothing longer than the largest sheet is read ..
 abbrev pub NoneLonger : Type 0
-NoneLonger = (bytes : List ℕ) (h : Head) → read_of bytes ≡ Sheet h → length bytes ≤ largest_sheet
+NoneLonger = (bytes : List ℕ) (h : Head) → read_of bytes ≡ Ok h → length bytes ≤ largest_sheet
 
 -- .. and one byte past it is enough to say what is refused, and why: whatever follows changes no answer
 abbrev pub OneMoreSuffices : Type 0

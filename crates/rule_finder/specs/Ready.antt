@@ -1,12 +1,11 @@
 -- For proofs only. A sheet that was read, with just its values: the preparer has no reason to turn it back.
-use Rattle.std.specs.Prelude.{◌≡◌, List, length, Float}
-use Rattle.prepare.specs.declared.Prepared.TheVariants.{Done}
+use Rattle.std.specs.Prelude.{◌≡◌, ◌≤◌, length, Ok}
+use Rattle.sheet.specs.Limits.{most_columns}
+use Rattle.sheet.specs.declared.lent.Measured.{Measured}
 use Rattle.prepare.specs.Prepared.{prepare_of}
-use Rattle.sheet_bytes.specs.declared.Head.{Head}
-use Rattle.sheet_bytes.specs.Read.{head_cells}
-use Rattle.sheet_bytes.specs.Reading.{SmallHead}
+use Rattle.sheet_bytes.specs.Room.{most_cells}
 
-pub record Prepares (h : Head) (values : List Float) : Type 0 where
-  pub small : SmallHead h
-  pub all : length values ≡ head_cells h
-  pub done : Done ≡ prepare_of h.rows h.columns values (head_cells h) (head_cells h) h.columns
+pub record Prepares (m : Measured) : Type 0 where
+  pub columns_most : m.size.columns ≤ most_columns
+  pub cells_most : length m.values.now ≤ most_cells
+  pub done : Ok tt ≡ prepare_of m.size.rows m.size.columns m.values.now (length m.values.now) (length m.values.now) m.size.columns

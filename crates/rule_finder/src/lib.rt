@@ -8,7 +8,7 @@ ghost use Rattle.listing.specs.Listing.{ListedIn};
 ghost use Rattle.rule_finder.specs.Run.{run_of};
 
 use crate::sheet_search::find;
-use sheet_bytes::Read;
+use sheet::lent::Measured;
 use sheet_bytes::sheet_room::{MOST_CELLS, MOST_READ};
 use tree::Answer;
 
@@ -17,13 +17,17 @@ fn answer_to(bytes: &[u8]) -> Answer
 {
     let mut values = [0.0f64; MOST_CELLS];
     let mut codes = [0u8; MOST_READ];
-    let read = sheet_bytes::read_sheet(bytes, &mut values, &mut codes);
-    match read {
-        Read::Refused { number, place } => Answer::TurnedBack { number, place },
-        Read::Sheet { head } => {
-            let rows = head.rows;
-            let cells = head.columns * rows;
-            find(head, &values[..cells], &codes[..rows])
+    match sheet_bytes::read_sheet(bytes, &mut values, &mut codes) {
+        Err(refusal) => Answer::from(refusal),
+        Ok(head) => {
+            let rows = head.size.rows;
+            let cells = head.size.columns * rows;
+            let measured = Measured {
+                size: head.size,
+                values: &values[..cells],
+                codes: &codes[..rows],
+            };
+            find(&measured, head.terms)
         }
     }
 }

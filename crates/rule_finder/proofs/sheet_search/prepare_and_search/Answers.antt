@@ -1,4 +1,4 @@
--- `rule_finder::sheet_search::prepare_and_search` meets its contract: the preparer does not turn back, so the search is that of the prepared sheet.
+-- The preparer does not turn back, so the search is that of the prepared sheet.
 use mathlib.Core.Path.{◌∙◌}
 use lib.ListN.{length}
 use Rattle.rule_finder.proofs.Calling.{search_prepared}
@@ -8,5 +8,4 @@ pub returns : goal.returns
 returns c =
     let a = c.args in
     c.certified_search.ensures.searched.answers
-    ∙ search_prepared a.head a.values.now a.codes.now a.order.now a.cuts.now a.counts.now c.prepare.result _ _ _ (length a.scratch.now)
-    c.requires c.prepare.ensures c.size_of-size.ensures c.terms_of-terms.ensures
+    ∙ search_prepared a.measured.now a.terms a.order.now a.cuts.now a.counts.now c.prepare.result _ _ _ (length a.scratch.now) c.requires c.prepare.ensures
