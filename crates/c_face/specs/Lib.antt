@@ -1,4 +1,4 @@
-pub mod Face
 pub mod Numbers
 pub mod Told
 pub mod Rule
+pub mod Face

@@ -4,7 +4,7 @@ ghost use Rattle.c_face.specs.Numbers.{size_in, terms_in};
 
 use sheet::{Size, Terms};
 
-// A call's numbers, in their order.
+// A call's numbers, in the order that include/finder.h gives C callers.
 pub(crate) const ROWS: usize = 0;
 
 pub(crate) const COLUMNS: usize = 1;
@@ -23,43 +23,32 @@ const BOUND: usize = 6;
 fn number(numbers: &[u32], at: usize) -> u32
     ensures { result ≡ get_or numbers.now at 0 }
 {
-    if at < numbers.len() {
-        return numbers[at];
-    }
-    0
+    numbers.get(at).copied().unwrap_or(0)
 }
 
 pub(crate) fn size_number(numbers: &[u32], at: usize) -> usize
     ensures { result ≡ get_or numbers.now at 0 }
 {
-    let n = number(numbers, at);
-    n as usize
+    number(numbers, at) as usize
 }
 
 pub(crate) fn size_in(numbers: &[u32]) -> Size
     ensures { result ≡ size_in numbers.now }
 {
-    let rows = size_number(numbers, ROWS);
-    let columns = size_number(numbers, COLUMNS);
-    let labels = size_number(numbers, LABELS);
     Size {
-        rows,
-        columns,
-        labels,
+        rows: size_number(numbers, ROWS),
+        columns: size_number(numbers, COLUMNS),
+        labels: size_number(numbers, LABELS),
     }
 }
 
 pub(crate) fn terms_in(numbers: &[u32]) -> Terms
     ensures { result ≡ terms_in numbers.now }
 {
-    let support = number(numbers, SUPPORT);
-    let gap = number(numbers, GAP);
-    let error = number(numbers, ERROR);
-    let bound = number(numbers, BOUND);
     Terms {
-        support,
-        gap,
-        error,
-        bound,
+        support: number(numbers, SUPPORT),
+        gap: number(numbers, GAP),
+        error: number(numbers, ERROR),
+        bound: number(numbers, BOUND),
     }
 }

@@ -1,75 +1,44 @@
 // What the check and the preparer tell a C caller, and how words come into a lent answer, which may be of any length.
 ghost use Rattle.std.specs.Prelude.{◌≡◌};
-ghost use Rattle.c_face.specs.Told.{written, told, checked_told, as_checked, prepared_told};
+ghost use Rattle.c_face.specs.Told.{written, verdict_words, verdict_told};
 
-use prepare::Prepared;
-use sheet::Checked;
+use sheet::refusals::Refusal;
 
-// The words that the check and the preparer answer.
+// The words that the check and the preparer answer, as in include/finder.h.
 const TOLD_WORDS: usize = 3;
 
-// What the first word of an answer says.
+// What the first word of an answer says, as in include/finder.h.
 pub(crate) const TURNED_BACK: u64 = 0;
 
 const TAKEN: u64 = 1;
 
-fn wide(x: u32) -> u64
-    ensures { result ≡ x }
-{
-    x as u64
-}
-
-fn word(x: usize) -> u64
-    ensures { result ≡ x }
-{
-    x as u64
-}
-
 // The words at the start of the answer; one too short for them is left alone.
+#[tactic(auto, using(crate::proofs::Writing::left_alone, crate::proofs::Writing::all_written))]
 pub(crate) fn write(answer: &mut [u64], words: &[u64])
     ensures { answer.new ≡ written words.now answer.old }
 {
     if answer.len() < words.len() {
         return;
     }
-    let mut at: usize = 0;
-    while at < words.len() {
-        answer[at] = words[at];
-        at += 1;
+    answer[..words.len()].copy_from_slice(words);
+}
+
+#[tactic(auto, unfolding(crate::specs::Told::verdict_words))]
+fn verdict_words(verdict: Result<(), Refusal>) -> [u64; TOLD_WORDS]
+    ensures { result ≡ verdict_words verdict }
+{
+    match verdict {
+        Ok(()) => [TAKEN, 0, 0],
+        Err(refusal) => [
+            TURNED_BACK,
+            u64::from(refusal.reason.number()),
+            refusal.place as u64,
+        ],
     }
 }
 
-fn tell(answer: &mut [u64], kind: u64, reason: u64, place: u64)
-    ensures { answer.new ≡ told kind reason place answer.old }
+pub(crate) fn tell_verdict(answer: &mut [u64], verdict: Result<(), Refusal>)
+    ensures { answer.new ≡ verdict_told verdict answer.old }
 {
-    let words: [u64; TOLD_WORDS] = [kind, reason, place];
-    write(answer, &words);
-}
-
-pub(crate) fn tell_checked(answer: &mut [u64], checked: Checked)
-    ensures { answer.new ≡ checked_told checked answer.old }
-{
-    match checked {
-        Checked::Accepted => {
-            tell(answer, TAKEN, 0, 0);
-        }
-        Checked::Refused(number, place) => {
-            tell(answer, TURNED_BACK, wide(number), word(place));
-        }
-    }
-}
-
-fn as_checked(done: Prepared) -> Checked
-    ensures { result ≡ as_checked done }
-{
-    match done {
-        Prepared::Done => Checked::Accepted,
-        Prepared::Refused { number, place } => Checked::Refused(number, place),
-    }
-}
-
-pub(crate) fn tell_prepared(answer: &mut [u64], done: Prepared)
-    ensures { answer.new ≡ prepared_told done answer.old }
-{
-    tell_checked(answer, as_checked(done));
+    write(answer, &verdict_words(verdict));
 }

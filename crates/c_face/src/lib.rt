@@ -5,9 +5,37 @@ mod c_numbers;
 mod c_told;
 mod c_words;
 
-ghost use Rattle.c_face.specs.Face.{PrepareCalled, CheckCalled, SearchCalled};
+ghost use Rattle.std.specs.Prelude.{◌≡◌};
+ghost use Rattle.sheet.specs.Lent as lent;
+ghost use Rattle.c_face.specs.Face.{sheet_in, PrepareCalled, CheckCalled, SearchCalled};
 
 use crate::c_numbers::{COLUMNS, ROWS, size_in, size_number, terms_in};
+use crate::c_told::tell_verdict;
+use crate::c_words::tell_searched;
+use sheet::lent::{LentSheet, Measured};
+
+// The sheet that a call hands over.
+fn sheet_in<'a>(
+    numbers: &[u32],
+    values: &'a [f64],
+    codes: &'a [u8],
+    order: &'a [u16],
+    cuts: &'a [u16],
+    counts: &'a [u16],
+) -> LentSheet<'a>
+    ensures { lent.sheet_in result ≡ sheet_in numbers.now values.now codes.now order.now cuts.now counts.now }
+{
+    LentSheet {
+        measured: Measured {
+            size: size_in(numbers),
+            values,
+            codes,
+        },
+        order,
+        cuts,
+        counts,
+    }
+}
 
 // The preparer. Numbers: rows, columns.
 pub fn finder_prepare(
@@ -24,7 +52,7 @@ pub fn finder_prepare(
     let rows = size_number(numbers, ROWS);
     let columns = size_number(numbers, COLUMNS);
     let done = prepare::prepare(rows, columns, values, order, cuts, counts);
-    crate::c_told::tell_prepared(answer, done);
+    tell_verdict(answer, done);
 }
 
 // The input check. Numbers: rows, columns, labels, support, gap, error, bound.
@@ -41,10 +69,9 @@ pub fn finder_check(
     ensures { CheckCalled numbers.now values.now codes.now order.now cuts.now counts.now scratch.old answer.old
         scratch.new answer.new }
 {
-    let size = size_in(numbers);
-    let terms = terms_in(numbers);
-    let checked = sheet_check::check(size, terms, values, codes, order, cuts, counts, scratch);
-    crate::c_told::tell_checked(answer, checked);
+    let sheet = sheet_in(numbers, values, codes, order, cuts, counts);
+    let checked = sheet_check::check(&sheet, terms_in(numbers), scratch);
+    tell_verdict(answer, checked);
 }
 
 // The search. Numbers: rows, columns, labels, support, gap, error, bound.
@@ -61,8 +88,7 @@ pub fn finder_search(
     ensures { SearchCalled numbers.now values.now codes.now order.now cuts.now counts.now scratch.old answer.old
         scratch.new answer.new }
 {
-    let size = size_in(numbers);
-    let terms = terms_in(numbers);
-    let found = depth2::search(size, terms, values, codes, order, cuts, counts, scratch);
-    crate::c_words::tell_searched(answer, found);
+    let sheet = sheet_in(numbers, values, codes, order, cuts, counts);
+    let found = depth2::search(&sheet, terms_in(numbers), scratch);
+    tell_searched(answer, found);
 }
