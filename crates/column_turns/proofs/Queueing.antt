@@ -4,7 +4,6 @@ use mathlib.Core.Path.{◌≡◌, refl, sym, ap, ◌∙◌, subst}
 use Prim.Native.Nat.{ℕ, ◌+◌, ◌/◌, ◌≤◌, ◌<◌}
 use native.Mathlib.Omega.{arith}
 use native.Mathlib.Nat.{mul-div_cancel_left}
-use mathlib.Core.Bool.{Bool}
 use mathlib.Core.List.{List, [], ◌∷◌, ◌++◌, append_assoc, append-nil}
 use lib.ListN.{length, length-append}
 use lib.Dec.{leb, eqb, le→leb}
@@ -13,7 +12,6 @@ use Rattle.sheet.specs.Limits.{most_rows}
 use Rattle.std.specs.Prelude.{Option, Some, None}
 use Rattle.interval_pruner.specs.declared.Bound.{Bound}
 use Rattle.interval_pruner.specs.declared.Parts.{Parts}
-use Rattle.interval_pruner.specs.declared.Zeros.{Zeros}
 use Rattle.interval_pruner.specs.Column.{recorded_column}
 use Rattle.interval_pruner.specs.Pruner.{parts_of, Held}
 use Rattle.interval_queue.specs.declared.Queue.{Queue}
@@ -24,7 +22,8 @@ use Rattle.column_search.specs.Search.{part, upper_part, lower_part}
 use Rattle.column_search.proofs.Steps.{sides}
 use Rattle.column_turns.specs.Lent.{table_of, ring_of, Enough}
 use Rattle.column_turns.specs.Ready.{Became}
-use Rattle.column_turns.specs.Parts.{Pushing, Queued, PartsWaiting, parts_queued}
+use Rattle.column_turns.specs.declared.Parting.{Parting}
+use Rattle.column_turns.specs.Parts.{Pushing, Queued, PartsWaiting, parts_queued, parted}
 use Rattle.column_turns.proofs.Lent.{ring_length, kept_enough, kept_then, kept_same}
 
 -- as many slots as rows
@@ -93,12 +92,11 @@ part_few : (i : Bound) → length (part i) ≤ 1
 unfolding part
 part_few i = by_test (λ (l : List Bound). length l ≤ 1) (leb i.first i.last) (λ _. omega arith) (λ _. omega arith)
 
-module _ (rows : ℕ) (places : List ℕ) (zeros : Zeros) (i : Bound) (cut : ℕ) (queue : Queue) (xs : List ℕ)
-    (parting : PartsWaiting rows places zeros i cut queue xs) (gap : ℕ) (small : Bool) (excess : ℕ) where
+module _ (rows : ℕ) (places : List ℕ) (p : Parting) (queue : Queue) (xs : List ℕ) (parting : PartsWaiting rows places p queue xs) where
   abbrev parts : Parts
-  parts = parts_of (recorded_column places [] gap small) zeros excess cut i.first
+  parts = parts_of (recorded_column places [] p.reach.gap p.reach.small) p.zeros p.reach.excess p.cut p.bound.first
 
-  pub upper_pushing : Pushing rows xs queue (upper_part i cut parts.upper)
+  pub upper_pushing : Pushing rows xs queue (upper_part p.bound p.cut parts.upper)
   upper_pushing =
       record {
         enough = parting.enough;
@@ -109,38 +107,38 @@ module _ (rows : ℕ) (places : List ℕ) (zeros : Zeros) (i : Bound) (cut : ℕ
               first = omega (arith, parting.till, parting.listed);
               last = omega (arith, parting.till, parting.listed);
               left = omega (arith, parting.to_last, parting.till, parting.listed);
-              right = small_cut (length places) i.right parting.listed parting.right;
+              right = small_cut (length places) p.bound.right parting.listed parting.right;
             };
       }
 
-  pub lower_pushing : (ys : List ℕ) (r : Queue) → Queued rows xs ys queue r (part (upper_part i cut parts.upper))
-      → Pushing rows ys r (lower_part i cut parts.lower)
+  pub lower_pushing : (ys : List ℕ) (r : Queue) → Queued rows xs ys queue r (part (upper_part p.bound p.cut parts.upper))
+      → Pushing rows ys r (lower_part p.bound p.cut parts.lower)
   lower_pushing ys r a =
       record {
         enough = kept_enough rows xs ys parting.enough a.kept;
         sane = a.sane;
-        room = omega (arith, parting.room, a.waiting, part_few (upper_part i cut parts.upper));
+        room = omega (arith, parting.room, a.waiting, part_few (upper_part p.bound p.cut parts.upper));
         small =
             λ h. record {
               first = omega (arith, parting.full, parting.till, parting.listed);
               last =
                   omega (
                     arith,
-                    (sides (recorded_column places [] gap small) zeros excess cut i.first parting.from_first parting.placed).1,
+                    (sides (recorded_column places [] p.reach.gap p.reach.small) p.zeros p.reach.excess p.cut p.bound.first parting.from_first parting.placed).1,
                     parting.to_last,
                     parting.till,
                     parting.listed,
                   );
-              left = small_cut (length places) i.left parting.listed parting.left;
+              left = small_cut (length places) p.bound.left parting.listed parting.left;
               right = omega (arith, parting.to_last, parting.till, parting.listed);
             };
       }
 
-  pub parts_none : i.first ≡ i.last → parts_queued places gap small zeros excess cut i ≡ []
+  pub parts_none : p.bound.first ≡ p.bound.last → parted places p ≡ []
   unfolding parts_queued
-  parts_none e = pick_true (eqb i.first i.last) [] _ (eqb_yes i.first i.last e)
+  parts_none e = pick_true (eqb p.bound.first p.bound.last) [] _ (eqb_yes p.bound.first p.bound.last e)
 
-  pub parts_both : (i.first ≡ i.last → ⊥)
-      → parts_queued places gap small zeros excess cut i ≡ part (upper_part i cut parts.upper) ++ part (lower_part i cut parts.lower)
+  pub parts_both : (p.bound.first ≡ p.bound.last → ⊥)
+      → parted places p ≡ part (upper_part p.bound p.cut parts.upper) ++ part (lower_part p.bound p.cut parts.lower)
   unfolding parts_queued
-  parts_both n = pick_false (eqb i.first i.last) [] _ (eqb_no i.first i.last n)
+  parts_both n = pick_false (eqb p.bound.first p.bound.last) [] _ (eqb_no p.bound.first p.bound.last n)

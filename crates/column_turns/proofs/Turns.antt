@@ -37,6 +37,7 @@ use Rattle.column_search.proofs.Kept.{cut_map}
 use Rattle.column_search.proofs.Same.{recalls, same_hope, same_shrunk}
 use Rattle.column_search.proofs.Steps.{shrunk_in_lem}
 use Rattle.column_turns.specs.declared.interval_steps.Standing.{Standing}
+use Rattle.column_turns.specs.declared.interval_steps.Reach.{Reach}
 use Rattle.column_turns.specs.declared.Course.{Course}
 use Rattle.column_turns.specs.declared.Attempt.{Attempt}
 use Rattle.column_turns.specs.Lent.{table_of, ring_of, RestKept}
@@ -104,9 +105,9 @@ module _ (s : Sheet) (t : Terms) (c : ℕ) (xs : List ℕ) (course : Course) (i 
   pub to_try : Trying s c (middle i) xs
   to_try = record { whole = attempting.whole; here = attempting.here; cut_in = middle_in; enough = attempting.enough }
 
-  pub to_part : (ys : List ℕ) (tried : Attempt) → Attempted s t.support c (middle i) course.zeros xs ys tried
-      → PartsWaiting s.rows (places_of s c) tried.zeros i (middle i) course.queue ys
-  to_part ys tried attempted =
+  pub to_part : (ys : List ℕ) (tried : Attempt) (reach : Reach) → Attempted s t.support c (middle i) course.zeros xs ys tried
+      → PartsWaiting s.rows (places_of s c) (record { bound = i; cut = middle i; zeros = tried.zeros; reach = reach }) course.queue ys
+  to_part ys tried reach attempted =
       let n : length (places_of s c) ≡ count_of s c = places_count s attempting.whole c attempting.here in
       let small : count_of s c < s.rows = (attempting.whole.sound.column c attempting.here).cuts.count_most in
       record {

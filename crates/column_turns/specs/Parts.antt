@@ -12,7 +12,7 @@ use Rattle.interval_queue.specs.declared.Queue.{Queue}
 use Rattle.interval_queue.specs.Ring.{contents}
 use Rattle.interval_queue.specs.Laws.{Sane, SmallBound}
 use Rattle.column_search.specs.Search.{part, upper_part, lower_part}
-use Rattle.column_turns.specs.declared.interval_steps.Reach.{Reach}
+use Rattle.column_turns.specs.declared.Parting.{Parting}
 use Rattle.column_turns.specs.Lent.{table_of, ring_of, Enough, RestKept}
 
 -- a cut of a list of n, if there is one
@@ -24,6 +24,10 @@ unfoldable pub parts_queued : List ℕ → ℕ → Bool → Zeros → ℕ → �
 parts_queued places gap small z excess m i =
     let p : Parts = parts_of (column.recorded_column places [] gap small) z excess m i.first in
     pick (eqb i.first i.last) [] (part (upper_part i m p.upper) ++ part (lower_part i m p.lower))
+
+-- the same of an interval to be parted
+abbrev pub parted : List ℕ → Parting → List Bound
+parted places p = parts_queued places p.reach.gap p.reach.small p.zeros p.reach.excess p.cut p.bound
 
 -- a part that can be queued, if it is not empty
 pub record Pushing (rows : ℕ) (scratch : List ℕ) (queue : Queue) (i : Bound) : Type 0 where
@@ -41,26 +45,24 @@ pub record Queued (rows : ℕ) (was scratch : List ℕ) (queue after : Queue) (m
   pub kept : RestKept rows was scratch
 
 -- what waits after a try: nothing if the column is over, else what waited and the parts of the interval
-pub record QueuedAfter (rows : ℕ) (places : List ℕ) (reach : Reach) (zeros : Zeros) (over : Bool) (i : Bound) (cut : ℕ) (queue : Queue) (was : List ℕ)
-    (after : Queue) (scratch : List ℕ) : Type 0 where
-  pub contents_are : contents (ring_of rows scratch) after
-      ≡ pick over [] (contents (ring_of rows was) queue ++ parts_queued places reach.gap reach.small zeros reach.excess cut i)
+pub record QueuedAfter (rows : ℕ) (places : List ℕ) (p : Parting) (over : Bool) (queue : Queue) (was : List ℕ) (after : Queue) (scratch : List ℕ) : Type 0 where
+  pub contents_are : contents (ring_of rows scratch) after ≡ pick over [] (contents (ring_of rows was) queue ++ parted places p)
   pub sane : Sane (ring_of rows scratch) after
   pub table_is : table_of rows scratch ≡ table_of rows was
   pub kept : RestKept rows was scratch
 
 -- an interval of listed cuts, with remembered cuts of the list, whose middle is tried
-pub record PartsWaiting (rows : ℕ) (places : List ℕ) (zeros : Zeros) (i : Bound) (cut : ℕ) (queue : Queue) (scratch : List ℕ) : Type 0 where
+pub record PartsWaiting (rows : ℕ) (places : List ℕ) (p : Parting) (queue : Queue) (scratch : List ℕ) : Type 0 where
   pub enough : Enough rows scratch
   pub listed : length places ≤ most_rows
   pub ascending : Ascending places
-  pub full : i.first ≤ i.last
-  pub till : i.last < length places
-  pub from_first : i.first ≤ cut
-  pub to_last : cut ≤ i.last
-  pub placed : 1 ≤ place places cut
-  pub left : Held (λ k. k < length places) i.left
-  pub right : Held (λ k. k < length places) i.right
-  pub zero : CutsNumbered (length places) zeros.left
+  pub full : p.bound.first ≤ p.bound.last
+  pub till : p.bound.last < length places
+  pub from_first : p.bound.first ≤ p.cut
+  pub to_last : p.cut ≤ p.bound.last
+  pub placed : 1 ≤ place places p.cut
+  pub left : Held (λ k. k < length places) p.bound.left
+  pub right : Held (λ k. k < length places) p.bound.right
+  pub zero : CutsNumbered (length places) p.zeros.left
   pub sane : Sane (ring_of rows scratch) queue
   pub room : queue.waiting + 2 ≤ rows

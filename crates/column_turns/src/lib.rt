@@ -14,7 +14,7 @@ ghost use Rattle.column_search.specs.Search.{part, upper_part, lower_part};
 ghost use Rattle.column_turns.specs.Lent.{table_of, ring_of, Enough, RestKept};
 ghost use Rattle.column_turns.specs.Promise.{Searching, ColumnSearched};
 ghost use Rattle.column_turns.specs.Ready.{Became, Trying, PlacedIn};
-ghost use Rattle.column_turns.specs.Parts.{PartsWaiting, Pushing, Queued, QueuedAfter, parts_queued};
+ghost use Rattle.column_turns.specs.Parts.{PartsWaiting, Pushing, Queued, QueuedAfter, parted};
 ghost use Rattle.column_turns.specs.Course.{Attempted, Attempting, IntervalTried, Turning, Turned, Opened};
 
 use crate::cut_try::{MARKS, RING, side_error, try_cut};
@@ -77,20 +77,32 @@ fn lower_part(bound: Bound, cut: usize, last: usize) -> Bound
     }
 }
 
+// An interval to be parted round its tried cut: the zero marks after the try, and what step 5 takes from it.
+#[derive(Clone, Copy)]
+struct Parting {
+    bound: Bound,
+    cut: usize,
+    zeros: Zeros,
+    reach: Reach,
+}
+
 // Step 5: the upper part, then the lower.
 fn queue_parts(
     rows: usize,
     places: &[u16],
-    reach: Reach,
-    zeros: Zeros,
-    bound: Bound,
-    cut: usize,
+    parting: Parting,
     queue: Queue,
     scratch: &mut [u32],
 ) -> Queue
-    requires { PartsWaiting rows places.now zeros bound cut queue scratch.old }
-    ensures { Queued rows scratch.old scratch.new queue result (parts_queued places.now reach.gap reach.small zeros reach.excess cut bound) }
+    requires { PartsWaiting rows places.now parting queue scratch.old }
+    ensures { Queued rows scratch.old scratch.new queue result (parted places.now parting) }
 {
+    let Parting {
+        bound,
+        cut,
+        zeros,
+        reach,
+    } = parting;
     if bound.first == bound.last {
         return queue;
     }
@@ -113,16 +125,13 @@ fn queue_parts(
 fn next_queue(
     rows: usize,
     places: &[u16],
-    reach: Reach,
-    zeros: Zeros,
+    parting: Parting,
     over: bool,
-    bound: Bound,
-    cut: usize,
     queue: Queue,
     scratch: &mut [u32],
 ) -> Queue
-    requires { PartsWaiting rows places.now zeros bound cut queue scratch.old }
-    ensures { QueuedAfter rows places.now reach zeros over bound cut queue scratch.old result scratch.new }
+    requires { PartsWaiting rows places.now parting queue scratch.old }
+    ensures { QueuedAfter rows places.now parting over queue scratch.old result scratch.new }
 {
     if over {
         return Queue {
@@ -130,7 +139,7 @@ fn next_queue(
             ..queue
         };
     }
-    queue_parts(rows, places, reach, zeros, bound, cut, queue, scratch)
+    queue_parts(rows, places, parting, queue, scratch)
 }
 
 // The errors of a tried cut are kept, and the zero marks moved.
@@ -217,17 +226,13 @@ fn try_interval(
     let reach = reach_of(terms, tree.error, standing.error);
     let places = places_of(sheet, column);
     let rows = sheet.measured.size.rows;
-    let queue = next_queue(
-        rows,
-        places,
-        reach,
-        zeros,
-        over,
+    let parting = Parting {
         bound,
         cut,
-        course.queue,
-        scratch,
-    );
+        zeros,
+        reach,
+    };
+    let queue = next_queue(rows, places, parting, over, course.queue, scratch);
     Course {
         standing,
         zeros,

@@ -7,7 +7,7 @@ use Rattle.basics.specs.Choice.{pick}
 use Rattle.interval_pruner.specs.declared.Bound.{Bound}
 use Rattle.interval_queue.specs.Ring.{contents}
 use Rattle.column_turns.specs.Lent.{ring_of}
-use Rattle.column_turns.specs.Parts.{parts_queued}
+use Rattle.column_turns.specs.Parts.{parted}
 use Rattle.column_turns.proofs.Lent.{kept_same}
 use Rattle.column_turns.proofs.next_queue.Goals as goal
 
@@ -17,7 +17,7 @@ returns-then-over c =
     let start = c in
     let a = start.args in
     let all : List Bound =
-    contents (ring_of a.rows a.scratch.now) a.queue ++ parts_queued a.places.now a.reach.gap a.reach.small a.zeros a.reach.excess a.cut a.bound in
+    contents (ring_of a.rows a.scratch.now) a.queue ++ parted a.places.now a.parting in
     record {
       contents_are = sym (ap (λ (b : Bool). pick b [] all) c.if-over.true);
       sane = record { head_in = start.requires.sane.head_in; few = omega arith };
@@ -31,7 +31,7 @@ returns c =
     let start = c in
     let a = start.args in
     let all : List Bound =
-    contents (ring_of a.rows a.scratch.now) a.queue ++ parts_queued a.places.now a.reach.gap a.reach.small a.zeros a.reach.excess a.cut a.bound in
+    contents (ring_of a.rows a.scratch.now) a.queue ++ parted a.places.now a.parting in
     let call = c.queue_parts in
     let queued = call.ensures in
     record {

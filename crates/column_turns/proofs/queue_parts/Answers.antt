@@ -16,46 +16,46 @@ pub returns-then-bound : goal.returns-then-bound
 returns-then-bound c =
     let start = c in
     let a = start.args in
-    none_queued a.rows a.scratch.now a.queue _ start.requires.sane (parts_none a.rows a.places.now a.zeros a.bound a.cut a.queue a.scratch.now start.requires a.reach.gap a.reach.small a.reach.excess c.if-bound.true)
+    none_queued a.rows a.scratch.now a.queue _ start.requires.sane (parts_none a.rows a.places.now a.parting a.queue a.scratch.now start.requires c.if-bound.true)
 
 pub queue_part-more-requires : goal.queue_part-more-requires
 queue_part-more-requires c =
     let start = c in
     let a = start.args in
-    let p : Parts = parts_of (recorded_column a.places.now [] a.reach.gap a.reach.small) a.zeros a.reach.excess a.cut a.bound.first in
+    let p : Parts = parts_of (recorded_column a.places.now [] a.parting.reach.gap a.parting.reach.small) a.parting.zeros a.parting.reach.excess a.parting.cut a.parting.bound.first in
     let e = c.neighbourhood_pruning-parts.ensures (record { ascending = start.requires.ascending; cut = omega (arith, start.requires.to_last, start.requires.till); zero = start.requires.zero }) in
-    let upper = c.upper_part-upper.ensures ∙ ap (λ (z : Parts). upper_part a.bound a.cut z.upper) e in
-    subst (Pushing a.rows a.scratch.now a.queue) (sym upper) (upper_pushing a.rows a.places.now a.zeros a.bound a.cut a.queue a.scratch.now start.requires a.reach.gap a.reach.small a.reach.excess)
+    let upper = c.upper_part-upper.ensures ∙ ap (λ (z : Parts). upper_part a.parting.bound a.parting.cut z.upper) e in
+    subst (Pushing a.rows a.scratch.now a.queue) (sym upper) (upper_pushing a.rows a.places.now a.parting a.queue a.scratch.now start.requires)
 
 pub queue_part-requires : goal.queue_part-requires
 queue_part-requires c =
     let start = c in
     let a = start.args in
-    let p : Parts = parts_of (recorded_column a.places.now [] a.reach.gap a.reach.small) a.zeros a.reach.excess a.cut a.bound.first in
+    let p : Parts = parts_of (recorded_column a.places.now [] a.parting.reach.gap a.parting.reach.small) a.parting.zeros a.parting.reach.excess a.parting.cut a.parting.bound.first in
     let e = c.neighbourhood_pruning-parts.ensures (record { ascending = start.requires.ascending; cut = omega (arith, start.requires.to_last, start.requires.till); zero = start.requires.zero }) in
-    let upper = c.upper_part-upper.ensures ∙ ap (λ (z : Parts). upper_part a.bound a.cut z.upper) e in
-    let lower = c.lower_part-lower.ensures ∙ ap (λ (z : Parts). lower_part a.bound a.cut z.lower) e in
+    let upper = c.upper_part-upper.ensures ∙ ap (λ (z : Parts). upper_part a.parting.bound a.parting.cut z.upper) e in
+    let lower = c.lower_part-lower.ensures ∙ ap (λ (z : Parts). lower_part a.parting.bound a.parting.cut z.lower) e in
     let call = c.queue_part-more in
     let ys : List ℕ = call.new.scratch in
-    let first : Queued a.rows a.scratch.now ys a.queue call.result (part (upper_part a.bound a.cut p.upper)) =
+    let first : Queued a.rows a.scratch.now ys a.queue call.result (part (upper_part a.parting.bound a.parting.cut p.upper)) =
     subst (λ (z : Bound). Queued a.rows a.scratch.now ys a.queue call.result (part z)) upper call.ensures in
-    subst (Pushing a.rows ys call.result) (sym lower) (lower_pushing a.rows a.places.now a.zeros a.bound a.cut a.queue a.scratch.now start.requires a.reach.gap a.reach.small a.reach.excess ys call.result first)
+    subst (Pushing a.rows ys call.result) (sym lower) (lower_pushing a.rows a.places.now a.parting a.queue a.scratch.now start.requires ys call.result first)
 
 pub returns : goal.returns
 returns c =
     let start = c in
     let a = start.args in
-    let p : Parts = parts_of (recorded_column a.places.now [] a.reach.gap a.reach.small) a.zeros a.reach.excess a.cut a.bound.first in
+    let p : Parts = parts_of (recorded_column a.places.now [] a.parting.reach.gap a.parting.reach.small) a.parting.zeros a.parting.reach.excess a.parting.cut a.parting.bound.first in
     let e = c.neighbourhood_pruning-parts.ensures (record { ascending = start.requires.ascending; cut = omega (arith, start.requires.to_last, start.requires.till); zero = start.requires.zero }) in
-    let upper = c.upper_part-upper.ensures ∙ ap (λ (z : Parts). upper_part a.bound a.cut z.upper) e in
-    let lower = c.lower_part-lower.ensures ∙ ap (λ (z : Parts). lower_part a.bound a.cut z.lower) e in
+    let upper = c.upper_part-upper.ensures ∙ ap (λ (z : Parts). upper_part a.parting.bound a.parting.cut z.upper) e in
+    let lower = c.lower_part-lower.ensures ∙ ap (λ (z : Parts). lower_part a.parting.bound a.parting.cut z.lower) e in
     let call = c.queue_part-more in
     let ys : List ℕ = call.new.scratch in
-    let first : Queued a.rows a.scratch.now ys a.queue call.result (part (upper_part a.bound a.cut p.upper)) =
+    let first : Queued a.rows a.scratch.now ys a.queue call.result (part (upper_part a.parting.bound a.parting.cut p.upper)) =
     subst (λ (z : Bound). Queued a.rows a.scratch.now ys a.queue call.result (part z)) upper call.ensures in
     let last = c.queue_part in
     let zs : List ℕ = last.new.scratch in
-    let second : Queued a.rows ys zs call.result last.result (part (lower_part a.bound a.cut p.lower)) =
+    let second : Queued a.rows ys zs call.result last.result (part (lower_part a.parting.bound a.parting.cut p.lower)) =
     subst (λ (z : Bound). Queued a.rows ys zs call.result last.result (part z)) lower last.ensures in
-    rw (parts_both a.rows a.places.now a.zeros a.bound a.cut a.queue a.scratch.now start.requires a.reach.gap a.reach.small a.reach.excess (λ h. absurd (omega (arith, h, c.if-bound.false))))
+    rw (parts_both a.rows a.places.now a.parting a.queue a.scratch.now start.requires (λ h. absurd (omega (arith, h, c.if-bound.false))))
     (both_queued a.rows a.scratch.now ys zs a.queue call.result last.result _ _ first second)

@@ -44,9 +44,9 @@ next_queue-queue-requires c =
     let a = start.args in
     let tried = c.try_and_keep-tried in
     let ys : List ℕ = tried.new.scratch in
-    subst (λ (l : List ℕ). PartsWaiting a.sheet.now.measured.size.rows l tried.result.zeros a.bound (middle a.bound) a.course.queue ys)
+    subst (λ (l : List ℕ). PartsWaiting a.sheet.now.measured.size.rows l (record { bound = a.bound; cut = middle a.bound; zeros = tried.result.zeros; reach = c.reach_of-reach.result }) a.course.queue ys)
     (sym (c.places_of-places.ensures))
-    (to_part (sheet_in a.sheet.now) a.terms a.column a.scratch.now a.course a.bound start.requires ys tried.result tried.ensures)
+    (to_part (sheet_in a.sheet.now) a.terms a.column a.scratch.now a.course a.bound start.requires ys tried.result c.reach_of-reach.result tried.ensures)
 
 pub returns : goal.returns
 returns c =
