@@ -6,7 +6,7 @@ pub mod refusals;
 
 ghost use Rattle.std.specs.Prelude.{◌≡◌, ◌+◌, ◌<◌, ◌≤◌, length, get_or};
 ghost use Rattle.basics.specs.Walk.{place_among};
-ghost use Rattle.sheet.specs.Check.{between, grid_holds, size_holds, terms_hold, cleared, first_bad_value, first_bad_label};
+ghost use Rattle.sheet.specs.Check.{grid_holds, size_holds, terms_hold, cleared, first_bad_value, first_bad_label};
 ghost use Rattle.sheet.specs.Sheet.{value_listed};
 
 // The numbers of a sheet; they may hold anything until the check has accepted them.
@@ -46,25 +46,6 @@ const MOST_ERROR: u32 = 1000000;
 
 pub const WORDS_PER_ROW: usize = 8;
 
-// The numbers of the reasons: document 01, "Reasons a call turns back".
-pub const SIZE_OUTSIDE: u32 = 1;
-
-pub const LENGTH_WRONG: u32 = 2;
-
-pub const SCRATCH_SHORT: u32 = 3;
-
-pub const TERM_ABOVE: u32 = 4;
-
-pub const VALUE_OUTSIDE: u32 = 5;
-
-pub const LABEL_HIGH: u32 = 6;
-
-pub const ORDER_WRONG: u32 = 7;
-
-pub const VALUE_FALLS: u32 = 8;
-
-pub const CUTS_WRONG: u32 = 9;
-
 // The first words become 0.
 pub fn clear(scratch: &mut [u32], words: usize)
     requires { words ≤ length scratch.old }
@@ -95,24 +76,18 @@ pub fn value_at(values: &[f64], order: &[u16], base: usize, place: usize) -> f64
     values[base + usize::from(order[base + place])]
 }
 
-fn is_between(least: usize, n: usize, most: usize) -> bool
-    ensures { result ≡ between least n most }
-{
-    least <= n && n <= most
-}
-
 #[tactic(auto, unfolding(crate::specs::Check::grid_holds))]
 pub fn grid_holds(rows: usize, columns: usize) -> bool
     ensures { result ≡ grid_holds rows columns }
 {
-    is_between(1, rows, MOST_ROWS) && is_between(1, columns, MOST_COLUMNS)
+    (1..=MOST_ROWS).contains(&rows) && (1..=MOST_COLUMNS).contains(&columns)
 }
 
 #[tactic(auto, unfolding(crate::specs::Check::size_holds))]
 pub fn size_holds(size: Size) -> bool
     ensures { result ≡ size_holds size.rows size.columns size.labels }
 {
-    grid_holds(size.rows, size.columns) && is_between(1, size.labels, MOST_LABELS)
+    grid_holds(size.rows, size.columns) && (1..=MOST_LABELS).contains(&size.labels)
 }
 
 #[tactic(auto, unfolding(crate::specs::Check::terms_hold))]

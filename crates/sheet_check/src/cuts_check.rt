@@ -6,7 +6,7 @@ ghost use Rattle.sheet.specs.Lent.{sheet_in};
 ghost use Rattle.sheet.specs.Ready.{Listed, Ordered};
 ghost use Rattle.sheet_check.specs.Steps.{cuts_match};
 
-use sheet::lent::LentSheet;
+use sheet::lent::{LentSheet, Measured};
 
 // Whether cut number `number` of the column whose entries start at base is listed, at that place.
 fn is_listed(cuts: &[u16], base: usize, count: usize, number: usize, place: usize) -> bool
@@ -21,12 +21,11 @@ fn cuts_match(sheet: &LentSheet, column: usize) -> bool
     requires { Listed (sheet_in sheet.now) column }
     ensures { result ≡ cuts_match (sheet_in sheet.now) column }
 {
-    let values = sheet.measured.values;
-    let rows = sheet.measured.size.rows;
-    let base = column * rows;
+    let Measured { size, values, .. } = sheet.measured;
+    let base = column * size.rows;
     let count = usize::from(sheet.counts[column]);
     let mut found: usize = 0;
-    for place in 1..rows {
+    for place in 1..size.rows {
         if sheet::value_at(values, sheet.order, base, place - 1)
             < sheet::value_at(values, sheet.order, base, place)
         {

@@ -5,17 +5,16 @@ ghost use Rattle.sheet.specs.Check.{falls, at_index};
 ghost use Rattle.sheet.specs.Lent.{sheet_in};
 ghost use Rattle.sheet.specs.Ready.{Listed, Ordered};
 
-use sheet::lent::LentSheet;
+use sheet::lent::{LentSheet, Measured};
 
 // The first sorted place of the column whose value is below its predecessor.
 fn first_fall_place(sheet: &LentSheet, column: usize) -> Option<usize>
     requires { Listed (sheet_in sheet.now) column }
     ensures { let s = sheet_in sheet.now in result ≡ place_among s.rows (walk (falls s column) s.rows 0) }
 {
-    let values = sheet.measured.values;
-    let rows = sheet.measured.size.rows;
-    let base = column * rows;
-    for here in 1..rows {
+    let Measured { size, values, .. } = sheet.measured;
+    let base = column * size.rows;
+    for here in 1..size.rows {
         if sheet::value_at(values, sheet.order, base, here)
             < sheet::value_at(values, sheet.order, base, here - 1)
         {

@@ -17,11 +17,12 @@ fn first_bad_place(sheet: &LentSheet, column: usize, marks: &mut [u32]) -> Optio
     ensures place { let rows = sheet.now.measured.size.rows in result ≡ place_among rows (walk (bad_order (sheet_in sheet.now) column) rows 0) }
     ensures marked { (r : ℕ) → get_or marks.new r 0 ≤ column + 1 }
 {
+    let order = sheet.order;
     let rows = sheet.measured.size.rows;
     let base = column * rows;
     let mark = (column + 1) as u32;
     for place in 0..rows {
-        let row = usize::from(sheet.order[base + place]);
+        let row = usize::from(order[base + place]);
         if rows <= row || marks[row] == mark {
             return Some(place);
         }

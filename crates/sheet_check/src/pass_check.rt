@@ -5,7 +5,7 @@ ghost use Rattle.sheet.specs.Lent.{sheet_in};
 ghost use Rattle.sheet.specs.Ready.{Shaped, Listed};
 ghost use Rattle.sheet_check.specs.Steps.{Taken, Passed, ends_hold};
 
-use sheet::lent::LentSheet;
+use sheet::lent::{LentSheet, Measured};
 
 // Whether it is a row of the sheet without the column's mark, which it has from then on.
 fn take_row(rows: usize, row: usize, mark: u32, marks: &mut [u32]) -> bool
@@ -28,24 +28,28 @@ fn column_passes(sheet: &LentSheet, column: usize, marks: &mut [u32]) -> bool
     requires lower_marks { (r : ℕ) → get_or marks.old r 0 ≤ column }
     ensures { T result → Passed (sheet_in sheet.now) column × ((r : ℕ) → get_or marks.new r 0 ≤ column + 1) }
 {
-    let values = sheet.measured.values;
-    let rows = sheet.measured.size.rows;
-    let base = column * rows;
+    let LentSheet {
+        measured: Measured { size, values, .. },
+        order,
+        cuts,
+        counts,
+    } = *sheet;
+    let base = column * size.rows;
     let mark = (column + 1) as u32;
-    let first = usize::from(sheet.order[base]);
-    if !take_row(rows, first, mark, marks) {
+    let first = usize::from(order[base]);
+    if !take_row(size.rows, first, mark, marks) {
         return false;
     }
     let mut last = values[base + first];
     let mut found: usize = 0;
-    for place in 1..rows {
-        let row = usize::from(sheet.order[base + place]);
-        if !take_row(rows, row, mark, marks) {
+    for place in 1..size.rows {
+        let row = usize::from(order[base + place]);
+        if !take_row(size.rows, row, mark, marks) {
             return false;
         }
         let value = values[base + row];
         if last < value {
-            if usize::from(sheet.cuts[base + found]) != place {
+            if usize::from(cuts[base + found]) != place {
                 return false;
             }
             found += 1;
@@ -54,7 +58,7 @@ fn column_passes(sheet: &LentSheet, column: usize, marks: &mut [u32]) -> bool
         }
         last = value;
     }
-    found == usize::from(sheet.counts[column])
+    found == usize::from(counts[column])
 }
 
 // Whether the column's lowest and highest value, which stand first and last in its order list, are in range.
@@ -62,11 +66,11 @@ fn ends_hold(sheet: &LentSheet, column: usize) -> bool
     requires { Listed (sheet_in sheet.now) column }
     ensures { result ≡ ends_hold (sheet_in sheet.now) column }
 {
-    let values = sheet.measured.values;
-    let rows = sheet.measured.size.rows;
-    let base = column * rows;
-    threshold::in_range(sheet::value_at(values, sheet.order, base, 0))
-        && threshold::in_range(sheet::value_at(values, sheet.order, base, rows - 1))
+    let Measured { size, values, .. } = sheet.measured;
+    let base = column * size.rows;
+    let first = sheet::value_at(values, sheet.order, base, 0);
+    let last = sheet::value_at(values, sheet.order, base, size.rows - 1);
+    threshold::in_range(first) && threshold::in_range(last)
 }
 
 // Whether none of reasons 5 to 9 is given. Values that ascend lie between the first and the last, so these two alone are looked at for reason 5.
