@@ -10,7 +10,11 @@ use Rattle.std.specs.Prelude.{Ok, Err}
 use Rattle.sheet.specs.declared.refusals.Refusal.{Refusal}
 use Rattle.sheet.specs.Reasons.{turned_back_for}
 use Rattle.sheet.specs.Sheet.{Sheet}
-use Rattle.sheet.specs.Check.{Verdict, check_of}
+use Rattle.sheet.specs.Check.{Verdict, check_of, scratch_after}
+use Rattle.sheet.specs.Laws.{Doubles}
+use Rattle.column_turns.specs.Lent.{Enough}
+use Rattle.column_turns.specs.Promise.{Whole}
+use Rattle.column_turns.proofs.Accepted.{accepted_whole, still_enough}
 use Rattle.column_turns.specs.declared.interval_steps.Standing.{Standing}
 use Rattle.depth2.specs.Search.{Progress, searched, answer_holding, answer_after, search_of}
 use Rattle.depth2.specs.Columns.{held_of, standing_of, answer_held}
@@ -34,3 +38,9 @@ module _ (s : Sheet) (t : Terms) (xs : List ℕ) (checked : Verdict) (is : check
       (λ k. answer_held (e k).error (e k).tried (e k).held)
       ∙ held_answer s t q q.best
       ∙ ap (answer_after s t) (sym (sym is ∙ accepted))
+
+  -- its columns can be searched, in the words that the check has left
+  pub searchable : Doubles s → (ys : List ℕ) → ys ≡ scratch_after checked s.rows xs → Whole s × Enough s.rows ys
+  searchable doubles ys lent =
+      let fit = accepted_whole s t xs doubles (sym is ∙ accepted) in
+      (fit.0, still_enough s t xs ys checked is accepted lent fit.1)

@@ -5,13 +5,13 @@ use mathlib.Core.Logic.{◌⊎◌, inl, inr, ⊎_elim}
 use Prim.Native.Nat.{ℕ, suc, ◌+◌, ◌-◌, ◌*◌, ◌/◌, ◌%◌, ◌≤◌, ◌<◌}
 use native.Mathlib.Omega.{arith}
 use native.Mathlib.Nat.{div-add-mod', div-lt_iff_lt-mul, mod-lt}
-use mathlib.Core.Bool.{Bool, true, false, not, ◌&&◌, ◌||◌}
+use mathlib.Core.Bool.{Bool, true, false, not, ◌&&◌}
 use lib.ListN.{length, get_or-eq_default}
 use lib.Dec.{T, T_not, not_T, leb, eqb, leb→le, le→leb, nleb→lt, eqb_refl}
 use lib.Ieee.{lt}
 use borrow.Author.Tests.{lt-leb}
 use Rattle.basics.specs.Walk.{walk}
-use Rattle.basics.proofs.Choice.{by_test, either, order, and_left, and_right, and_both, nand_left, nand_right, nleb}
+use Rattle.basics.proofs.Choice.{by_test, either, order, and_left, and_right, and_both, or_left, or_right, nand_left, nand_right, nleb}
 use Rattle.threshold.specs.Threshold.{within}
 use Rattle.sheet.specs.declared.Terms.{Terms}
 use mathlib.Core.Option.{some}
@@ -167,14 +167,6 @@ module _ (s : Sheet) (some : 1 ≤ s.rows) where
   order_to : (p : ℕ) → OrderWrong s p → (p < cells_of s) × T (at_index (bad_order s) s.rows p)
   order_to p (c, i, h, g, e, f) = (index_in c i p h g e, at_index_lem (bad_order s) c i p g e (wrong c i f))
     where
-      or_left : (a b : Bool) → T a → T (a || b)
-      or_left true b t = tt
-      or_left false b t = absurd t
-
-      or_right : (a b : Bool) → T b → T (a || b)
-      or_right true b t = tt
-      or_right false b t = t
-
       wrong : (c i : ℕ) → (s.rows ≤ row_at s c i) ⊎ ((j : ℕ) × (j < i) × (row_at s c j ≡ row_at s c i)) → T (bad_order s c i)
       wrong c i (inl h) = unfold bad_order in or_left (leb s.rows (row_at s c i)) (met s c i) (le→leb s.rows (row_at s c i) h)
       wrong c i (inr (j, h, e)) = unfold bad_order in or_right (leb s.rows (row_at s c i)) (met s c i) (met_yes s c i j h e)

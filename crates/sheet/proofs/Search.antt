@@ -2,7 +2,7 @@
 use mathlib.Core.Path.{◌≡◌, refl, sym, ap, ◌∙◌, subst}
 use Prim.Native.Nat.{ℕ, ◌+◌, ◌≤◌, ◌<◌}
 use native.Mathlib.Omega.{arith}
-use mathlib.Core.Bool.{Bool, true, false, not, ◌&&◌}
+use mathlib.Core.Bool.{Bool, true, false, not}
 use lib.Dec.{T, ltb}
 use mathlib.Core.List.{List}
 use lib.ListN.{length, get_or}
@@ -27,13 +27,6 @@ untruth e = subst (λ x. T (not x)) (sym e) tt
 pub falsity : (b : Bool) → T (not b) → b ≡ false
 falsity true t = absurd t
 falsity false t = refl
-
--- a chain of tests, up to the first that fails
-pub go : {a b x : Bool} → a ≡ true → b ≡ x → (a && b) ≡ x
-go {a} {b} e f = ap (λ t. t && b) e ∙ f
-
-pub stop : {a : Bool} (b : Bool) → a ≡ false → (a && b) ≡ false
-stop b e = ap (λ t. t && b) e
 
 pub clean_none : {bad : ℕ → Bool} → Clean bad 0
 clean_none = record { none = λ j h. absurd (omega arith) }

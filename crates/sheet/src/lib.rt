@@ -26,13 +26,6 @@ pub struct Terms {
     pub bound: u32,
 }
 
-#[derive(Clone, Copy)]
-pub enum Checked {
-    Accepted,
-    // the reason's number, and the place that it reports
-    Refused(u32, usize),
-}
-
 // The limits: document 01, "The sheet and its numbers".
 pub const MOST_ROWS: usize = 4096;
 
@@ -42,7 +35,7 @@ pub const MOST_LABELS: usize = 32;
 
 const MOST_SUPPORT: u32 = 4096;
 
-const MOST_ERROR: u32 = 1000000;
+const MOST_ERROR: u32 = 1_000_000;
 
 pub const WORDS_PER_ROW: usize = 8;
 

@@ -2,5 +2,6 @@
 mod Found
 mod Marks
 mod Matched
+mod Named
 mod Seen
 mod Whole

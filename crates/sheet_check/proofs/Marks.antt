@@ -2,12 +2,12 @@
 use mathlib.Core.Path.{◌≡◌, sym, ap, ◌∙◌, subst}
 use Prim.Native.Nat.{ℕ, ◌+◌, ◌≤◌, ◌<◌}
 use native.Mathlib.Omega.{arith}
-use mathlib.Core.Bool.{Bool, true, false, not, ◌||◌}
+use mathlib.Core.Bool.{not}
 use mathlib.Core.List.{List}
 use lib.ListN.{length, get_or, set, drop, replicate, length-append, length-drop, length-replicate, get_or-replicate, get_or-eq_default, get_or-append}
 use lib.Seq.{get_or-set_same, get_or-set_other}
 use lib.Dec.{T, not_T, leb, leb→le, le→leb}
-use Rattle.basics.proofs.Choice.{order, reach, nor_both}
+use Rattle.basics.proofs.Choice.{order, reach, or_left, or_right, nor_both}
 use Rattle.sheet.specs.Sheet.{Sheet, row_at}
 use Rattle.sheet.specs.Check.{met, bad_order, cleared}
 use Rattle.sheet.proofs.MetBefore.{met_yes, met_no}
@@ -41,20 +41,12 @@ module _ (s : Sheet) (c i mark : ℕ) (marks : List ℕ) (m : Marks s c i mark m
   pub bad_high : s.rows ≤ row → T (bad_order s c i)
   unfolding bad_order
   bad_high h = or_left (leb s.rows (row_at s c i)) (met s c i) (le→leb s.rows (row_at s c i) (omega arith))
-    where
-      or_left : (a b : Bool) → T a → T (a || b)
-      or_left true b t = tt
-      or_left false b t = absurd t
 
   pub bad_met : get_or marks row 0 ≡ mark → T (bad_order s c i)
   unfolding bad_order
   bad_met h =
       let w = m.only row h in
       or_right (leb s.rows (row_at s c i)) (met s c i) (met_yes s c i w.0 w.1 (w.2 ∙ e))
-    where
-      or_right : (a b : Bool) → T b → T (a || b)
-      or_right true b t = tt
-      or_right false b t = t
 
   pub good : row < s.rows → (get_or marks row 0 ≡ mark → ⊥) → T (not (bad_order s c i))
   unfolding bad_order

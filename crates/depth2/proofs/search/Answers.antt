@@ -7,8 +7,8 @@ use lib.ListN.{length}
 use Rattle.sheet.specs.Sheet.{Sheet}
 use Rattle.sheet.specs.Check.{Verdict, scratch_after}
 use Rattle.sheet.specs.Lent.{sheet_in}
-use Rattle.column_turns.proofs.Accepted.{accepted_whole, still_enough, cleared_again}
-use Rattle.depth2.proofs.Answer.{found_answer, refused}
+use Rattle.column_turns.proofs.Accepted.{cleared_again}
+use Rattle.depth2.proofs.Answer.{found_answer, searchable, refused}
 use Rattle.depth2.proofs.search.Goals as goal
 
 pub returns-in-Err : goal.returns-in-Err
@@ -22,25 +22,22 @@ returns-in-Err c =
 
 pub search_columns-standing-requires : goal.search_columns-standing-requires
 search_columns-standing-requires c =
-    let s : Sheet = sheet_in c.args.sheet.now in
-    let xs : List ℕ = c.args.scratch.now in
-    let check = c.check in
-    let fit = accepted_whole s c.args.terms xs c.are_doubles.ensures (sym check.ensures.answers ∙ c.in_default.is) in
-    (fit.0, still_enough s c.args.terms xs check.new.scratch check.result check.ensures.answers c.in_default.is check.ensures.words fit.1)
+    searchable (sheet_in c.args.sheet.now) c.args.terms c.args.scratch.now c.check.result c.check.ensures.answers c.in_default.is c.are_doubles.ensures
+    c.check.new.scratch c.check.ensures.words
 
 pub overflow_mul-sheet : goal.overflow_mul-sheet
 overflow_mul-sheet c =
-    let fit = accepted_whole (sheet_in c.args.sheet.now) c.args.terms c.args.scratch.now c.are_doubles.ensures (sym c.check.ensures.answers ∙ c.in_default.is) in
-    omega (arith, fit.1.few)
+    let able =
+    searchable (sheet_in c.args.sheet.now) c.args.terms c.args.scratch.now c.check.result c.check.ensures.answers c.in_default.is c.are_doubles.ensures
+    c.check.new.scratch c.check.ensures.words in
+    omega (arith, able.1.few)
 
 pub clear-requires : goal.clear-requires
 clear-requires c =
-    let s : Sheet = sheet_in c.args.sheet.now in
-    let xs : List ℕ = c.args.scratch.now in
-    let check = c.check in
-    let fit = accepted_whole s c.args.terms xs c.are_doubles.ensures (sym check.ensures.answers ∙ c.in_default.is) in
-    let enough = still_enough s c.args.terms xs check.new.scratch check.result check.ensures.answers c.in_default.is check.ensures.words fit.1 in
-    omega (arith, enough.words, c.search_columns-standing.ensures.kept.size)
+    let able =
+    searchable (sheet_in c.args.sheet.now) c.args.terms c.args.scratch.now c.check.result c.check.ensures.answers c.in_default.is c.are_doubles.ensures
+    c.check.new.scratch c.check.ensures.words in
+    omega (arith, able.1.words, c.search_columns-standing.ensures.kept.size)
 
 pub returns : goal.returns
 returns c =

@@ -1,4 +1,4 @@
-use mathlib.Core.Path.{◌≡◌, refl, sym, ap, ◌∙◌, subst}
+use mathlib.Core.Path.{◌≡◌, sym, ap, ap₂, ◌∙◌, subst}
 use Prim.Native.Nat.{ℕ, ◌+◌, ◌*◌, ◌-◌}
 use mathlib.Core.Bool.{◌&&◌}
 use native.Mathlib.Omega.{arith}
@@ -11,18 +11,14 @@ use Rattle.sheet.specs.Lent.{sheet_in}
 use Rattle.sheet.proofs.Search.{truth, untruth, falsity}
 use Rattle.sheet.proofs.Values.{value_ready, as_value, cut_yes, cut_no}
 use Rattle.sheet_check.proofs.Matched.{Matched, matched_none, matched_skip, matched_take, mismatch, matched_end}
+use Rattle.sheet_check.proofs.Named.{as_place, as_count}
 use Rattle.sheet_check.proofs.cuts_check.cuts_match.Goals as goal
 use Rattle.sheet_check.proofs.cuts_check.cuts_match.Goals.{then-value_at+else-not-is_listed, else-value_at}
 
--- the count and a listed place, as the definitions name them
-counted : (s : Sheet) (c : ℕ) → get_or s.counts c 0 ≡ count_of s c
-unfolding count_of
-counted s c = refl
-
+-- whether a cut is listed, as the definitions say it
 as_listed : (s : Sheet) (c count found i : ℕ) → count ≡ count_of s c
     → (ltb found count && eqb (get_or s.cuts (c * s.rows + found) 0) i) ≡ (ltb found (count_of s c) && eqb (place_of s c found) i)
-unfolding place_of
-as_listed s c count found i e = ap (λ (n : ℕ). ltb found n && eqb (place_of s c found) i) e
+as_listed s c count found i e = ap₂ (λ (n p : ℕ). ltb found n && eqb p i) e (as_place s c found)
 
 pub loop-place-init : goal.loop-place-init
 loop-place-init c = matched_none (sheet_in c.args.sheet.now) c.args.column
@@ -39,7 +35,7 @@ returns-then-not-is_listed c =
     let column : ℕ = c.args.column in
     let i : ℕ = c.loop-place.place in
     let m = c.loop-place.invariant in
-    let count : c.from-count.result ≡ count_of s column = c.from-count.ensures ∙ counted s column in
+    let count : c.from-count.result ≡ count_of s column = c.from-count.ensures ∙ as_count s column in
     sym
     (falsity (same (places_of s column) (cuts_of s column))
     (mismatch s column c.loop-place.found i m (omega (arith, c.loop-place-test.true))
@@ -54,7 +50,7 @@ loop-place-preserved c =
     let i : ℕ = c.loop-place.place in
     let found : ℕ = c.loop-place.found in
     let m = c.loop-place.invariant in
-    let count : c.from-count.result ≡ count_of s column = c.from-count.ensures ∙ counted s column in
+    let count : c.from-count.result ≡ count_of s column = c.from-count.ensures ∙ as_count s column in
     let here : c.value_at-in-loop-place.result ≡ value_at s column i = c.value_at-in-loop-place.ensures ∙ as_value s column i in
     let before : c.value_at.result ≡ value_at s column (i - 1) = c.value_at.ensures ∙ as_value s column (i - 1) in
     elim c.if-value_at.branch [
@@ -70,6 +66,6 @@ loop-place-preserved c =
 pub returns : goal.returns
 returns c =
     let s : Sheet = sheet_in c.args.sheet.now in
-    ap (λ (n : ℕ). eqb c.loop-place.found n) (c.from-count.ensures ∙ counted s c.args.column)
+    ap (λ (n : ℕ). eqb c.loop-place.found n) (c.from-count.ensures ∙ as_count s c.args.column)
     ∙ matched_end s c.args.column c.loop-place.found c.loop-place.place c.loop-place.invariant
     (omega (arith, c.loop-place-test.false, c.loop-place.auto.place-end))

@@ -8,10 +8,11 @@ use lib.ListN.{length, get_or}
 use lib.Dec.{T, eqb→eq}
 use lib.Ieee.{Float, nan, binary64, fits, eq, ne}
 use Rattle.sheet.specs.Laws.{Doubles}
-use Rattle.sheet.specs.Sheet.{Sheet, row_at, value_of, value_at, place_of, count_of}
+use Rattle.sheet.specs.Sheet.{Sheet, row_at, value_of, value_at}
 use Rattle.sheet.specs.Lent.{sheet_in}
 use Rattle.sheet.proofs.Search.{truth}
 use Rattle.sheet_check.proofs.Seen.{equal_back, seen_first, seen_rise, seen_level, seen_all}
+use Rattle.sheet_check.proofs.Named.{as_row, as_value_of, as_place, as_count}
 use Rattle.sheet_check.proofs.pass_check.column_passes.Goals as goal
 use Rattle.sheet_check.proofs.pass_check.column_passes.Goals.{then-last-value+else-from-place, else-last-value+else-value-last}
 
@@ -20,22 +21,6 @@ use Rattle.sheet_check.proofs.pass_check.column_passes.Goals.{then-last-value+el
 row_first : (s : Sheet) (c row : ℕ) → row ≡ get_or s.order (c * s.rows) 0 → row ≡ row_at s c 0
 unfolding row_at
 row_first s c row e = e ∙ ap (λ (n : ℕ). get_or s.order n 0) (sym (add-zero (c * s.rows)))
-
-row_here : (s : Sheet) (c i row : ℕ) → row ≡ get_or s.order (c * s.rows + i) 0 → row ≡ row_at s c i
-unfolding row_at
-row_here s c i row e = e
-
-value_here : (s : Sheet) (c i row : ℕ) → row ≡ row_at s c i → get_or s.values (c * s.rows + row) nan ≡ value_at s c i
-unfolding value_at value_of
-value_here s c i row e = ap (λ (r : ℕ). get_or s.values (c * s.rows + r) nan) e
-
-as_place : (s : Sheet) (c k : ℕ) → get_or s.cuts (c * s.rows + k) 0 ≡ place_of s c k
-unfolding place_of
-as_place s c k = refl
-
-as_count : (s : Sheet) (c : ℕ) → get_or s.counts c 0 ≡ count_of s c
-unfolding count_of
-as_count s c = refl
 
 last_double : (s : Sheet) → Doubles s → (c i : ℕ) (v : Float) → v ≡ value_at s c (i - 1) → T (fits binary64 v)
 unfolding value_at value_of
@@ -57,7 +42,7 @@ loop-place-init c =
       doubles = c.type_inv.values;
       seen =
           seen_first (λ r. omega (arith, c.requires.lower_marks r)) e (c.take_row.ensures (truth c.if-not-take_row.false)) c.requires.room
-          (value_here s column 0 c.from-first.result e);
+          (as_value_of s column 0 c.from-first.result e);
     }
 
 pub loop-place-preserved : goal.loop-place-preserved
@@ -67,12 +52,12 @@ loop-place-preserved c =
     let i : ℕ = c.loop-place.place in
     let inv = c.loop-place.invariant in
     let m = inv.seen in
-    let e : c.from-row.result ≡ row_at s column i = row_here s column i _ c.from-row.ensures in
+    let e : c.from-row.result ≡ row_at s column i = as_row s column i _ c.from-row.ensures in
     let t = c.take_row-in-loop-place.ensures (truth c.if-not-take_row-2.false) in
     let value : Float = get_or s.values (column * s.rows + c.from-row.result) nan in
     let double : T (fits binary64 value) = inv.doubles _ in
     let before : T (fits binary64 c.loop-place.last) = last_double s inv.doubles column i c.loop-place.last m.at in
-    let q = value_here s column i c.from-row.result e in
+    let q = as_value_of s column i c.from-row.result e in
     let l : s.rows ≤ length c.loop-place.marks = omega (arith, c.requires.room, inv.size) in
     record {
       size = omega (arith, inv.size);
