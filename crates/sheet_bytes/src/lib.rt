@@ -133,82 +133,12 @@ fn too_large(head: Head) -> bool
     MOST_READ < head.size.rows || MOST_CELLS < head.size.columns * head.size.rows
 }
 
-#[tactic(auto, unfolding(crate::specs::Read::row_start))]
-fn start_of(columns: usize, row: usize) -> usize
-    requires { (columns ≤ most_columns) × (row ≤ most_read) }
-    ensures place { result ≡ row_start columns row }
-    ensures low { result ≤ last_start }
-{
-    HEAD_SIZE + row * (ROW_FIXED + VALUE_SIZE * columns)
-}
-
-#[tactic(auto, unfolding(crate::specs::Read::row_bad))]
-fn row_bad(bytes: &[u8], head: Head, row: usize) -> bool
-    requires { SmallHead head × (row < head.size.rows) }
-    ensures { result ≡ row_bad bytes.now head row }
-{
-    let start = start_of(head.size.columns, row);
-    bytes.len() < start_of(head.size.columns, row + 1) || !is_marked(bytes, start, b"RW")
-}
-
-#[tactic(auto, unfolding(crate::specs::Read::further))]
-fn has_further(bytes: &[u8], head: Head) -> bool
-    requires { SmallHead head }
-    ensures { result ≡ further bytes.now head }
-{
-    start_of(head.size.columns, head.size.rows) < bytes.len()
-}
-
-// Where the bits of a value stand.
-#[tactic(auto, unfolding(crate::specs::Read::cell_at))]
-fn cell_at(head: Head, index: usize) -> usize
-    requires { SmallHead head × (index < head_cells head) }
-    ensures place { result ≡ cell_at head index }
-    ensures low { result < 2 ^ 30 }
-{
-    let row = index % head.size.rows;
-    let column = index / head.size.rows;
-    start_of(head.size.columns, row) + ROW_FIXED + VALUE_SIZE * column
-}
-
-#[tactic(auto, unfolding(crate::specs::Read::bits_of))]
-fn bits_at(bytes: &[u8], head: Head, index: usize) -> u64
-    requires { SmallHead head × (index < head_cells head) }
-    ensures { result ≡ bits_of bytes.now head index }
-{
-    u64_at(bytes, cell_at(head, index))
-}
-
 // A NaN is refused by its bits: no float is made of it.
 #[tactic(auto, using(crate::proofs::Numbers::no_nan, crate::proofs::Numbers::nan_refused))]
 fn bits_within(bits: u64) -> bool
     ensures { result ≡ within (of_bits binary64 bits) }
 {
     bits % SIGN <= INFINITE && threshold::in_range(f64::from_bits(bits))
-}
-
-#[tactic(auto, unfolding(crate::specs::Read::value_bad, crate::specs::Read::value_read))]
-fn value_bad(bytes: &[u8], head: Head, index: usize) -> bool
-    requires { SmallHead head × (index < head_cells head) }
-    ensures { result ≡ value_bad bytes.now head index }
-{
-    !bits_within(bits_at(bytes, head, index))
-}
-
-#[tactic(auto, unfolding(crate::specs::Read::code_of))]
-fn code_at(bytes: &[u8], head: Head, row: usize) -> u8
-    requires { SmallHead head × (row < head.size.rows) }
-    ensures { result ≡ code_of bytes.now head row }
-{
-    byte_at(bytes, start_of(head.size.columns, row) + CODE_PLACE)
-}
-
-#[tactic(auto, unfolding(crate::specs::Read::code_bad))]
-fn code_bad(bytes: &[u8], head: Head, row: usize) -> bool
-    requires { SmallHead head × (row < head.size.rows) }
-    ensures { result ≡ code_bad bytes.now head row }
-{
-    head.size.labels <= usize::from(code_at(bytes, head, row))
 }
 
 // The first of so many places that is bad.
@@ -224,23 +154,122 @@ fn first_bad<F: Fn(usize) -> bool>(count: usize, bad: F) -> Option<usize>
     None
 }
 
-// Reasons 4, 5 and 6.
-#[tactic(auto, unfolding(crate::specs::Read::from_terms, crate::specs::Read::from_values, crate::specs::Read::from_codes, crate::specs::Read::terms_bad, crate::specs::Read::first_bad, basics::specs::Choice::pick))]
-fn check_cells(bytes: &[u8], head: Head) -> Result<Head, Refusal>
-    requires { SmallHead head }
-    ensures { result ≡ from_terms bytes.now head }
-{
-    if !sheet::terms_hold(head.terms) {
-        return Err(Reason::TermAbove.whole());
+// A sheet's bytes, with the numbers of their header.
+#[derive(Clone, Copy)]
+struct SheetBytes<'a> {
+    bytes: &'a [u8],
+    head: Head,
+}
+
+impl SheetBytes<'_> {
+    // Where a row's record starts; that of the row past the last is the end.
+    #[tactic(auto, unfolding(crate::specs::Read::row_start))]
+    fn start_of(&self, row: usize) -> usize
+        requires { (self.now.head.size.columns ≤ most_columns) × (row ≤ most_read) }
+        ensures place { result ≡ row_start self.now.head.size.columns row }
+        ensures low { result ≤ last_start }
+    {
+        HEAD_SIZE + row * (ROW_FIXED + VALUE_SIZE * self.head.size.columns)
     }
-    let cells = head.size.columns * head.size.rows;
-    if let Some(index) = first_bad(cells, |index| value_bad(bytes, head, index)) {
-        return Err(Reason::ValueOutside.at(index));
+
+    #[tactic(auto, unfolding(crate::specs::Read::row_bad))]
+    fn row_bad(&self, row: usize) -> bool
+        requires { SmallHead self.now.head × (row < self.now.head.size.rows) }
+        ensures { result ≡ row_bad self.now.bytes.now self.now.head row }
+    {
+        let start = self.start_of(row);
+        self.bytes.len() < self.start_of(row + 1) || !is_marked(self.bytes, start, b"RW")
     }
-    if let Some(row) = first_bad(head.size.rows, |row| code_bad(bytes, head, row)) {
-        return Err(Reason::LabelHigh.at(row));
+
+    #[tactic(auto, unfolding(crate::specs::Read::further))]
+    fn has_further(&self) -> bool
+        requires { SmallHead self.now.head }
+        ensures { result ≡ further self.now.bytes.now self.now.head }
+    {
+        self.start_of(self.head.size.rows) < self.bytes.len()
     }
-    Ok(head)
+
+    // Where the bits of a value stand.
+    #[tactic(auto, unfolding(crate::specs::Read::cell_at))]
+    fn cell_at(&self, index: usize) -> usize
+        requires { SmallHead self.now.head × (index < head_cells self.now.head) }
+        ensures place { result ≡ cell_at self.now.head index }
+        ensures low { result < 2 ^ 30 }
+    {
+        let row = index % self.head.size.rows;
+        let column = index / self.head.size.rows;
+        self.start_of(row) + ROW_FIXED + VALUE_SIZE * column
+    }
+
+    #[tactic(auto, unfolding(crate::specs::Read::bits_of))]
+    fn bits_at(&self, index: usize) -> u64
+        requires { SmallHead self.now.head × (index < head_cells self.now.head) }
+        ensures { result ≡ bits_of self.now.bytes.now self.now.head index }
+    {
+        u64_at(self.bytes, self.cell_at(index))
+    }
+
+    #[tactic(auto, unfolding(crate::specs::Read::value_bad, crate::specs::Read::value_read))]
+    fn value_bad(&self, index: usize) -> bool
+        requires { SmallHead self.now.head × (index < head_cells self.now.head) }
+        ensures { result ≡ value_bad self.now.bytes.now self.now.head index }
+    {
+        !bits_within(self.bits_at(index))
+    }
+
+    #[tactic(auto, unfolding(crate::specs::Read::code_of))]
+    fn code_at(&self, row: usize) -> u8
+        requires { SmallHead self.now.head × (row < self.now.head.size.rows) }
+        ensures { result ≡ code_of self.now.bytes.now self.now.head row }
+    {
+        byte_at(self.bytes, self.start_of(row) + CODE_PLACE)
+    }
+
+    #[tactic(auto, unfolding(crate::specs::Read::code_bad))]
+    fn code_bad(&self, row: usize) -> bool
+        requires { SmallHead self.now.head × (row < self.now.head.size.rows) }
+        ensures { result ≡ code_bad self.now.bytes.now self.now.head row }
+    {
+        self.head.size.labels <= usize::from(self.code_at(row))
+    }
+
+    // Reasons 4, 5 and 6.
+    #[tactic(auto, unfolding(crate::specs::Read::from_terms, crate::specs::Read::from_values, crate::specs::Read::from_codes, crate::specs::Read::terms_bad, crate::specs::Read::first_bad, basics::specs::Choice::pick))]
+    fn check_cells(&self) -> Result<Head, Refusal>
+        requires { SmallHead self.now.head }
+        ensures { result ≡ from_terms self.now.bytes.now self.now.head }
+    {
+        let head = self.head;
+        if !sheet::terms_hold(head.terms) {
+            return Err(Reason::TermAbove.whole());
+        }
+        let cells = head.size.columns * head.size.rows;
+        if let Some(index) = first_bad(cells, |index| self.value_bad(index)) {
+            return Err(Reason::ValueOutside.at(index));
+        }
+        if let Some(row) = first_bad(head.size.rows, |row| self.code_bad(row)) {
+            return Err(Reason::LabelHigh.at(row));
+        }
+        Ok(head)
+    }
+
+    fn fill_values(&self, values: &mut [f64])
+        requires { SmallHead self.now.head × (head_cells self.now.head ≤ length values.old) × Valued self.now.bytes.now self.now.head }
+        ensures { values.new ≡ sets values.old 0 (values_of self.now.bytes.now self.now.head) }
+    {
+        for index in 0..self.head.size.columns * self.head.size.rows {
+            values[index] = f64::from_bits(self.bits_at(index));
+        }
+    }
+
+    fn fill_codes(&self, codes: &mut [u8])
+        requires { SmallHead self.now.head × (self.now.head.size.rows ≤ length codes.old) }
+        ensures { codes.new ≡ sets codes.old 0 (codes_of self.now.bytes.now self.now.head) }
+    {
+        for row in 0..self.head.size.rows {
+            codes[row] = self.code_at(row);
+        }
+    }
 }
 
 // All reasons, in document 01's order.
@@ -258,31 +287,14 @@ fn check_sheet(bytes: &[u8]) -> Result<Head, Refusal>
     if too_large(head) {
         return Err(Reason::SheetLarge.whole());
     }
-    if let Some(row) = first_bad(head.size.rows, |row| row_bad(bytes, head, row)) {
+    let read = SheetBytes { bytes, head };
+    if let Some(row) = first_bad(head.size.rows, |row| read.row_bad(row)) {
         return Err(Reason::RowWrong.at(row));
     }
-    if has_further(bytes, head) {
+    if read.has_further() {
         return Err(Reason::BytesLeft.whole());
     }
-    check_cells(bytes, head)
-}
-
-fn fill_values(bytes: &[u8], head: Head, values: &mut [f64])
-    requires { SmallHead head × (head_cells head ≤ length values.old) × Valued bytes.now head }
-    ensures { values.new ≡ sets values.old 0 (values_of bytes.now head) }
-{
-    for index in 0..head.size.columns * head.size.rows {
-        values[index] = f64::from_bits(bits_at(bytes, head, index));
-    }
-}
-
-fn fill_codes(bytes: &[u8], head: Head, codes: &mut [u8])
-    requires { SmallHead head × (head.size.rows ≤ length codes.old) }
-    ensures { codes.new ≡ sets codes.old 0 (codes_of bytes.now head) }
-{
-    for row in 0..head.size.rows {
-        codes[row] = code_at(bytes, head, row);
-    }
+    read.check_cells()
 }
 
 // The header's numbers, with the values and the label codes at the start of the lent memory; or why the bytes are refused, and then nothing
@@ -295,7 +307,8 @@ pub fn read_sheet(bytes: &[u8], values: &mut [f64], codes: &mut [u8]) -> Result<
         return Err(Reason::ScratchShort.whole());
     }
     let head = check_sheet(bytes)?;
-    fill_values(bytes, head, values);
-    fill_codes(bytes, head, codes);
+    let read = SheetBytes { bytes, head };
+    read.fill_values(values);
+    read.fill_codes(codes);
     Ok(head)
 }
