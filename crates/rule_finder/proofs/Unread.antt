@@ -110,7 +110,7 @@ module _ (bytes : List ℕ) (n : ℕ) (enough : largest_sheet < n) (long : n ≤
         before row ends fits = unfold row_start in omega (arith, enough)
 
     same_end : from_end cut h ≡ from_end bytes h
-    unfolding from_end further
+    unfolding further
     same_end =
         let fits = largest h s in
         chosen (ltb (row_start h.size.columns h.size.rows) (length cut)) (Err (refused BytesLeft 0)) (from_terms cut h)
@@ -119,13 +119,12 @@ module _ (bytes : List ℕ) (n : ℕ) (enough : largest_sheet < n) (long : n ≤
         (lt-ltb (row_start h.size.columns h.size.rows) (length bytes) (omega arith)))
 
     same_rows : from_rows cut h ≡ from_rows bytes h
-    unfolding from_rows first_bad
+    unfolding first_bad
     same_rows =
         ap₂ (λ (r : ℕ) (rest : Result Head Refusal). pick (ltb r h.size.rows) (Err (refused RowWrong r)) rest)
         (walk_same (row_bad cut h) (row_bad bytes h) h.size.rows 0 (λ j l k. same_row j (omega arith))) same_end
 
   same_size : (h : Head) → from_size cut h ≡ from_size bytes h
-  unfolding from_size from_large
   same_size h =
       later (size_bad h) (Err (refused SizeOutside 0)) (from_large cut h) (from_large bytes h)
       (λ good. later (too_large h) (Err (refused SheetLarge 0)) (from_rows cut h) (from_rows bytes h) (λ few. same_rows h (small_enough h good few)))

@@ -100,7 +100,7 @@ same_head : (a b : Head) → ◌≡◌ {A = Result Head Refusal} (Ok a) (Ok b) �
 same_head a b e = cc
 
 pub accepted : (bytes : List ℕ) (h : Head) → read_of bytes ≡ Ok h → Accepted bytes h
-unfolding read_of from_size from_large from_rows from_end from_terms from_values from_codes
+unfolding read_of from_terms
 accepted bytes h e =
     let g = head_of bytes in
     let p1 = through (head_bad bytes) HeadWrong 0 (from_size bytes g) h e in
@@ -137,7 +137,7 @@ ends_all reason bad count rest p =
     passed (ltb (walk bad count 0) count) (Err (refused reason (walk bad count 0))) rest (le-ltb (walk bad count 0) count (omega arith))
 
 good_sheet : (bytes : List ℕ) → Accepted bytes (head_of bytes) → read_of bytes ≡ Ok (head_of bytes)
-unfolding read_of from_size from_large from_rows from_end from_terms from_values from_codes
+unfolding read_of from_terms
 good_sheet bytes a =
     let g = head_of bytes in
     passed (head_bad bytes) (Err (refused HeadWrong 0)) (from_size bytes g) (falsity (head_bad bytes) a.head_good)

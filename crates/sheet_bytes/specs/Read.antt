@@ -102,25 +102,25 @@ code_bad bytes h row = leb h.size.labels (code_of bytes h row)
 unfoldable pub first_bad : Reason → (ℕ → Bool) → ℕ → Result Head Refusal → Result Head Refusal
 first_bad reason bad count rest = pick (ltb (walk bad count 0) count) (Err (refused reason (walk bad count 0))) rest
 
-unfoldable pub from_codes : List ℕ → Head → Result Head Refusal
+abbrev pub from_codes : List ℕ → Head → Result Head Refusal
 from_codes bytes h = first_bad LabelHigh (code_bad bytes h) h.size.rows (Ok h)
 
-unfoldable pub from_values : List ℕ → Head → Result Head Refusal
+abbrev pub from_values : List ℕ → Head → Result Head Refusal
 from_values bytes h = first_bad ValueOutside (value_bad bytes h) (head_cells h) (from_codes bytes h)
 
 unfoldable pub from_terms : List ℕ → Head → Result Head Refusal
 from_terms bytes h = pick (terms_bad h) (Err (refused TermAbove 0)) (from_values bytes h)
 
-unfoldable pub from_end : List ℕ → Head → Result Head Refusal
+abbrev pub from_end : List ℕ → Head → Result Head Refusal
 from_end bytes h = pick (further bytes h) (Err (refused BytesLeft 0)) (from_terms bytes h)
 
-unfoldable pub from_rows : List ℕ → Head → Result Head Refusal
+abbrev pub from_rows : List ℕ → Head → Result Head Refusal
 from_rows bytes h = first_bad RowWrong (row_bad bytes h) h.size.rows (from_end bytes h)
 
-unfoldable pub from_large : List ℕ → Head → Result Head Refusal
+abbrev pub from_large : List ℕ → Head → Result Head Refusal
 from_large bytes h = pick (too_large h) (Err (refused SheetLarge 0)) (from_rows bytes h)
 
-unfoldable pub from_size : List ℕ → Head → Result Head Refusal
+abbrev pub from_size : List ℕ → Head → Result Head Refusal
 from_size bytes h = pick (size_bad h) (Err (refused SizeOutside 0)) (from_large bytes h)
 
 unfoldable pub read_of : List ℕ → Result Head Refusal

@@ -234,7 +234,7 @@ impl SheetBytes<'_> {
     }
 
     // Reasons 4, 5 and 6.
-    #[tactic(auto, unfolding(crate::specs::Read::from_terms, crate::specs::Read::from_values, crate::specs::Read::from_codes, crate::specs::Read::terms_bad, crate::specs::Read::first_bad, basics::specs::Choice::pick))]
+    #[tactic(auto, unfolding(crate::specs::Read::from_terms, crate::specs::Read::terms_bad, crate::specs::Read::first_bad, basics::specs::Choice::pick))]
     fn check_cells(&self) -> Result<Head, Refusal>
         requires { SmallHead self.now.head }
         ensures { result ≡ from_terms self.now.bytes.now self.now.head }
@@ -273,7 +273,7 @@ impl SheetBytes<'_> {
 }
 
 // All reasons, in document 01's order.
-#[tactic(auto, using(crate::proofs::Stages::columns_most), unfolding(crate::specs::Read::read_of, crate::specs::Read::from_size, crate::specs::Read::from_large, crate::specs::Read::from_rows, crate::specs::Read::from_end, crate::specs::Read::size_bad, crate::specs::Read::first_bad, basics::specs::Choice::pick))]
+#[tactic(auto, using(crate::proofs::Stages::columns_most), unfolding(crate::specs::Read::read_of, crate::specs::Read::size_bad, crate::specs::Read::first_bad, basics::specs::Choice::pick))]
 fn check_sheet(bytes: &[u8]) -> Result<Head, Refusal>
     ensures { result ≡ read_of bytes.now }
 {
