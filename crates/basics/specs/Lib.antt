@@ -1,4 +1,3 @@
 pub mod Choice
 pub mod Lists
 pub mod Walk
-pub mod Wide
