@@ -21,6 +21,7 @@ pub fn threshold_between(lower: f64, upper: f64) -> f64
 }
 
 // A NaN goes right, as in the original; no sheet holds one.
+#[tactic(auto, unfolding(crate::specs::Threshold::goes_left))]
 pub fn goes_left(value: f64, threshold: f64) -> bool
     ensures { result ≡ goes_left value threshold }
 {

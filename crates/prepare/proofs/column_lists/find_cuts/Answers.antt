@@ -1,17 +1,10 @@
 use mathlib.Core.Path.{sym, ◌∙◌}
-use native.Mathlib.Omega.{arith}
-use Rattle.prepare.proofs.Cutting.{start, cut, no_rise, earlier, later, total, cleared}
+use Rattle.prepare.proofs.Cutting.{start, cut, no_rise, total, cleared}
 use Rattle.prepare.proofs.column_lists.find_cuts.Goals as goal
 use Rattle.prepare.proofs.column_lists.find_cuts.Goals.{else-below, then-below}
 
 pub loop-i-init : goal.loop-i-init
 loop-i-init c = start _ _ _ c.requires
-
-pub below-requires : goal.below-requires
-below-requires c =
-    let h = c in
-    let p = c in
-    (earlier _ _ _ p.requires _ _ _ h.loop-i.invariant c.loop-i-test.true, later _ _ _ p.requires _ _ _ h.loop-i.invariant c.loop-i-test.true)
 
 pub loop-i-preserved : goal.loop-i-preserved
 loop-i-preserved c =
@@ -19,9 +12,6 @@ loop-i-preserved c =
     let p = c in
     let l = c.loop-i-test.true in
     elim c.if-below.branch [ then-below w ↦ rw (w.cuts-is, w.count-is) (cut _ _ _ p.requires _ _ _ h.loop-i.invariant l (sym c.below.ensures ∙ w.if-below.true)) | else-below w ↦ rw (w.cuts-is, w.count-is) (no_rise _ _ _ p.requires _ _ _ h.loop-i.invariant l (sym c.below.ensures ∙ w.if-below.false)) ]
-
-pub overflow_cast-result : goal.overflow_cast-result
-overflow_cast-result c = omega (arith, c.loop-i.invariant, c.requires)
 
 pub returns : goal.returns
 returns c =
