@@ -82,22 +82,24 @@ fn rule(column: usize, threshold: f64, left: Side, right: Side) -> Tree {
     }
 }
 
+fn run(rt: &impl Print, name: &str, sheet: &Measured, tree: Tree) -> io::Result<()> {
+    println!(rt; "{name}: {}", Verdict(judge(sheet, tree)))
+}
+
 // A sheet, and a tree that asks a column that no sheet has: the sheet's own reasons come first.
-fn run_sheet(rt: &impl Print, name: &str, sheet: Measured) -> io::Result<()> {
-    let verdict = Verdict(judge(&sheet, rule(16, 2.5, leaf(0), leaf(0))));
-    println!(rt; "{name}: {verdict}")
+fn run_sheet(rt: &impl Print, name: &str, sheet: &Measured) -> io::Result<()> {
+    run(rt, name, sheet, rule(16, 2.5, leaf(0), leaf(0)))
 }
 
 // The trees on the four-row sheet.
-fn run(rt: &impl Print, trees: &[(&str, Tree)]) -> io::Result<()> {
+fn run_trees(rt: &impl Print, trees: &[(&str, Tree)]) -> io::Result<()> {
     let sheet = Measured {
         size: SIZE,
         values: &VALUES,
         codes: &CODES,
     };
     for (name, tree) in trees {
-        let verdict = Verdict(judge(&sheet, *tree));
-        println!(rt; "{name}: {verdict}")?;
+        run(rt, name, &sheet, *tree)?;
     }
     Ok(())
 }
@@ -105,7 +107,7 @@ fn run(rt: &impl Print, trees: &[(&str, Tree)]) -> io::Result<()> {
 fn both_sides(rt: &impl Print) -> io::Result<()> {
     let low = split(0, 1.5, 0, 1);
     let high = split(0, 3.5, 0, 1);
-    run(
+    run_trees(
         rt,
         &[
             ("two questions", rule(0, 2.5, low, high)),
@@ -118,7 +120,7 @@ fn both_sides(rt: &impl Print) -> io::Result<()> {
 }
 
 fn at_thresholds(rt: &impl Print) -> io::Result<()> {
-    run(
+    run_trees(
         rt,
         &[
             ("value at the threshold", rule(0, 1.0, leaf(0), leaf(1))),
@@ -136,7 +138,7 @@ fn at_thresholds(rt: &impl Print) -> io::Result<()> {
 fn high_columns(rt: &impl Print) -> io::Result<()> {
     let fair = split(0, 1.5, 0, 1);
     let high = split(1, 1.5, 0, 1);
-    run(
+    run_trees(
         rt,
         &[
             ("column of the root", rule(1, 2.5, high, high)),
@@ -148,7 +150,7 @@ fn high_columns(rt: &impl Print) -> io::Result<()> {
 
 fn high_labels(rt: &impl Print) -> io::Result<()> {
     let fair = split(0, 1.5, 0, 1);
-    run(
+    run_trees(
         rt,
         &[
             ("left leaf's label", rule(0, 2.5, leaf(2), leaf(2))),
@@ -176,7 +178,7 @@ fn high_labels(rt: &impl Print) -> io::Result<()> {
 fn endless_roots(rt: &impl Print) -> io::Result<()> {
     let fair = split(0, 1.5, 0, 1);
     let endless = split(0, f64::INFINITY, 0, 1);
-    run(
+    run_trees(
         rt,
         &[
             (
@@ -196,7 +198,7 @@ fn endless_sides(rt: &impl Print) -> io::Result<()> {
     let endless = split(0, f64::INFINITY, 0, 1);
     let neither = split(0, f64::NAN, 0, 1);
     let fair = split(0, 1.5, 0, 1);
-    run(
+    run_trees(
         rt,
         &[
             ("infinite on the left", rule(0, 2.5, endless, endless)),
@@ -210,7 +212,7 @@ fn endless_sides(rt: &impl Print) -> io::Result<()> {
 fn two_reasons(rt: &impl Print) -> io::Result<()> {
     let fair = split(0, 1.5, 0, 1);
     let endless = split(1, f64::INFINITY, 0, 1);
-    run(
+    run_trees(
         rt,
         &[
             ("column before label", rule(0, 2.5, leaf(2), endless)),
@@ -230,20 +232,16 @@ fn run_size(
     columns: usize,
     labels: usize,
 ) -> io::Result<()> {
-    let size = Size {
-        rows,
-        columns,
-        labels,
-    };
-    run_sheet(
-        rt,
-        name,
-        Measured {
-            size,
-            values: &VALUES,
-            codes: &CODES,
+    let sheet = Measured {
+        size: Size {
+            rows,
+            columns,
+            labels,
         },
-    )
+        values: &VALUES,
+        codes: &CODES,
+    };
+    run_sheet(rt, name, &sheet)
 }
 
 fn bad_sizes(rt: &impl Print) -> io::Result<()> {
@@ -260,16 +258,12 @@ fn bad_lists(rt: &impl Print) -> io::Result<()> {
         values: &VALUES,
         codes: &[0, 1, 2, 2],
     };
-    let large = [1.0, 2.0, 1000000000001.0, 4.0];
-    run_sheet(
-        rt,
-        "value too large",
-        Measured {
-            values: &large,
-            ..sheet
-        },
-    )?;
-    run_sheet(rt, "label too high", sheet)?;
+    let large = Measured {
+        values: &[1.0, 2.0, 1000000000001.0, 4.0],
+        ..sheet
+    };
+    run_sheet(rt, "value too large", &large)?;
+    run_sheet(rt, "label too high", &sheet)?;
     run_size(rt, "sheet fair", 4, 1, 2)
 }
 

@@ -54,7 +54,7 @@ pub fn places(list: &mut [u16; MOST_CUTS], mask: usize) -> usize
 {
     let mut count = 0;
     for bit in 0..8u16 {
-        if mask >> bit & 1 == 1 && count < list.len() {
+        if mask >> bit & 1 == 1 {
             list[count] = bit + 1;
             count += 1;
         }

@@ -60,11 +60,6 @@ impl Tries<'_> {
     }
 }
 
-const UNMARKED: Zeros = Zeros {
-    left: None,
-    right: None,
-};
-
 // Of no cut there are no errors.
 fn has_errors(cut: Option<usize>, pair: u32) -> bool {
     cut.is_some() || pair == LAST_PAIR
@@ -82,7 +77,7 @@ fn tell_with_errors(
     let left = number_of(bound.left);
     let once = add_result(
         &mut table,
-        UNMARKED,
+        Zeros::default(),
         left,
         left_pair / ERRORS,
         left_pair % ERRORS,
@@ -103,7 +98,7 @@ fn tell_with_errors(
     };
     tries.tell_every_term(tally);
     Tries {
-        zeros: UNMARKED,
+        zeros: Zeros::default(),
         ..tries
     }
     .tell_every_term(tally);

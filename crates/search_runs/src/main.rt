@@ -5,6 +5,7 @@
 ghost use Rattle.std.specs.Prelude.{◌<◌, ◌≤◌, length};
 ghost use Rattle.search_runs.specs.declared.TheConstants.{MOST_ROWS};
 
+use basics::runs::run_length;
 use digits::HEX_PLACES;
 use listing::LONGEST;
 use sheet::lent::{LentSheet, Measured};
@@ -42,16 +43,6 @@ fn thresholds(rt: &impl Print) -> io::Result<()> {
     show_threshold(rt, "T2", 1.0000000000000002, 1.0000000000000004)?;
     show_threshold(rt, "T3", 1.0, 1.0000000000000002)?;
     show_threshold(rt, "T4", 5.0e-324, 1.0e-323)
-}
-
-// How many words at the front hold that number.
-fn run_length(words: &[u32], number: u32) -> usize
-    ensures { result ≤ length words.now }
-{
-    words
-        .iter()
-        .position(|word| *word != number)
-        .unwrap_or(words.len())
 }
 
 // The search of a sheet whose order, cuts and counts are given.

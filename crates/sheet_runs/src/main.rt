@@ -1,8 +1,9 @@
 // The input check on small sheets: each reason at its first and its last place, two reasons at once, and every word of scratch.
 #![tactic(auto)]
 
-ghost use Rattle.std.specs.Prelude.{◌+◌, ◌<◌, ◌≤◌, length};
+ghost use Rattle.std.specs.Prelude.{◌<◌};
 
+use basics::runs::run_length;
 use sheet::lent::{LentSheet, Measured};
 use sheet::refusals::Refusal;
 use sheet::{Size, Terms};
@@ -71,16 +72,6 @@ const GOOD: Case = Case {
 
 fn first<T>(items: &[T], count: usize) -> &[T] {
     &items[..count.min(items.len())]
-}
-
-// How many words at the front hold that number.
-fn run_length(words: &[u32], number: u32) -> usize
-    ensures { result ≤ length words.now }
-{
-    words
-        .iter()
-        .position(|word| *word != number)
-        .unwrap_or(words.len())
 }
 
 impl Case {

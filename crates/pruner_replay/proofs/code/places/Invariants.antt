@@ -1,6 +1,6 @@
--- `places` stores a place only where there is room. Assumes nothing.
-use Rattle.std.proofs.Common.{◌≤◌, length}
+-- `places` has stored no more places than it went over. Assumes nothing.
+use Rattle.std.proofs.Common.{◌≤◌}
 use Rattle.pruner_replay.proofs.code.places.Given as goal
 
 abbrev pub invariant-loop-bit : goal.invariant-loop-bit
-invariant-loop-bit l = l.count ≤ length l.list
+invariant-loop-bit l = l.count ≤ l.bit
