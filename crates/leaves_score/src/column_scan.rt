@@ -1,6 +1,8 @@
 // A column of the two sides of a root split: its rows in sorted order, each advancing its own side, until no row to come could change either.
-ghost use Rattle.std.specs.Prelude.{◌≡◌, ◌&&◌, ◌||◌, ◌≤◌, ◌<◌};
+ghost use Rattle.std.specs.Prelude.{◌≡◌, false, ◌&&◌, ◌||◌, ◌≤◌, ◌<◌};
 ghost use Rattle.sheet.specs.Lent.{sheet_in};
+ghost use Rattle.side_scan.specs.OneSide.{step_of};
+ghost use Rattle.side_scan.specs.Step.{Ready};
 ghost use Rattle.leaves_score.specs.Column.{idle, ended, scan_column};
 ghost use Rattle.leaves_score.specs.SideLists.{ReadyColumn, side_at, both_of, Within};
 ghost use Rattle.leaves_score.specs.Lists.{scan_of, go_left};
@@ -44,6 +46,19 @@ fn is_over(sides: &[SideScan; SIDES], own: usize) -> bool
     is_still(&sides[own]) && is_ended(&sides[0], &sides[1])
 }
 
+// One row of an open side. One that is only counted is counted in its place, and only a row whose cut is scored takes the record by value.
+fn take_row(side: &mut SideScan, column: usize, label: usize, value: f64)
+    requires ready { Ready side.old label }
+    requires open { side.old.closed ≡ false }
+    ensures { side.new ≡ step_of side.old column label value }
+{
+    if side.is_only_counting(value) {
+        side.count(label, value);
+    } else {
+        side.advance(column, label, value);
+    }
+}
+
 // A column. The sides lie by their numbers, so that no row waits for the guess of its side.
 pub(crate) fn scan_column(
     sides: &mut [SideScan; SIDES],
@@ -68,7 +83,7 @@ pub(crate) fn scan_column(
         let side = marks[row] as usize;
         if !sides[side].closed {
             let label = usize::from(codes[row]);
-            sides[side].advance(column, label, values[base + row]);
+            take_row(&mut sides[side], column, label, values[base + row]);
             if is_over(sides, side) {
                 break;
             }

@@ -31,11 +31,15 @@ opened t column label value k h g =
     ap (λ (x : Bool). pick x t (pick (quiet t value) (only_counted t label value) (scored t column label value))) h
     ∙ ap (λ (x : Bool). pick x (only_counted t label value) (scored t column label value)) g
 
+pub counts : (t : SideScan) (column label : ℕ) (value : Float) → t.closed ≡ false → quiet t value ≡ true → only_counted t label value ≡ step_of t column label value
+unfolding pick
+counts t column label value o q = sym (opened t column label value true o q)
+
 -- with skip fallen, and the cut scored if the row is not quiet, the row is counted
 abbrev fell : SideScan → ℕ → SideScan
 fell t skip = record t { skip = skip }
 
-abbrev pub counting : ℕ → Float → SideScan → SideScan
+abbrev counting : ℕ → Float → SideScan → SideScan
 counting label value u = count_row u u.best u.skip u.closed label value
 
 module _ (t : SideScan) (column label : ℕ) (value : Float) (skip : ℕ) (o : t.closed ≡ false) (e : skip ≡ fallen t.skip) where
@@ -45,7 +49,7 @@ module _ (t : SideScan) (column label : ℕ) (value : Float) (skip : ℕ) (o : t
 
   pub only : quiet_by t.previous value skip ≡ true → counting label value (fell t skip) ≡ step_of t column label value
   unfolding only_counted count_row pick
-  only q = ap (λ (n : ℕ). counting label value (fell t n)) e ∙ sym (opened t column label value true o (test true q))
+  only q = ap (λ (n : ℕ). counting label value (fell t n)) e ∙ counts t column label value o (test true q)
 
   pub cuts : quiet_by t.previous value skip ≡ false → counting label value (cut_scored (fell t skip) column value) ≡ step_of t column label value
   unfolding scored best_after count_row pick

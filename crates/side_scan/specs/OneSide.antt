@@ -137,6 +137,10 @@ count_row t best skip closed label value =
       previous = Some value;
     }
 
+-- a row gone past, but for its label and the skip
+abbrev pub gone_past : SideScan → Float → SideScan
+gone_past t value = record t { counted = t.counted + 1; previous = Some value }
+
 -- the cut before a row scored, where skip has fallen already; the row is still to be counted
 abbrev pub cut_scored : SideScan → ℕ → Float → SideScan
 cut_scored t column value =

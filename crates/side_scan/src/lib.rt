@@ -6,8 +6,9 @@ pub mod cut_score;
 
 ghost use Rattle.std.specs.Prelude.{◌≡◌, ◌≤◌, ◌<◌};
 ghost use Rattle.sheet.specs.Limits.{most_labels, most_rows};
-ghost use Rattle.side_scan.specs.OneSide.{counted_of, restarted, cut_scored, count_row, step_of, side_of};
-ghost use Rattle.side_scan.specs.Step.{Cuttable, Steppable, leaf_scan, SideSized};
+ghost use Rattle.side_scan.specs.OneSide.{restarted, quiet, cut_scored, gone_past, only_counted, step_of, side_of};
+ghost use Rattle.side_scan.specs.Scored.{fallen};
+ghost use Rattle.side_scan.specs.Step.{Cuttable, Ready, Steppable, leaf_scan, SideSized};
 
 use crate::best_counts::{commonest_label, find_peaks};
 use crate::cut_score::{Best, Cut, is_quiet};
@@ -74,19 +75,58 @@ impl SideScan {
         self.previous = None;
     }
 
-    // One row of the side. A closed side stays as it is.
+    // The skip at the next row.
+    fn fallen(&self) -> u32
+        ensures { result ≡ fallen self.now.skip }
+    {
+        self.skip.saturating_sub(1)
+    }
+
+    // One row of the side, the whole record by value. A closed side stays as it is. The counts with the row are made before its cut is scored, so
+    // that they are ready when the record is stored.
+    fn step(mut self, column: usize, label: usize, value: f64) -> SideScan
+        requires { Steppable self label }
+        ensures { result ≡ step_of self column label value }
+    {
+        if self.closed {
+            return self;
+        }
+        let mut raised = self.seen;
+        raised[label] += 1;
+        self.skip = self.fallen();
+        if !is_quiet(self.previous, value, self.skip) {
+            self.score_cut(column, value);
+        }
+        self.seen = raised;
+        self.go_past(value);
+        self
+    }
+
+    // The same in place.
     pub fn advance(&mut self, column: usize, label: usize, value: f64)
         requires { Steppable self.old label }
         ensures { self.new ≡ step_of self.old column label value }
     {
-        if self.closed {
-            return;
-        }
-        self.skip = self.skip.saturating_sub(1);
-        if !is_quiet(self.previous, value, self.skip) {
-            self.score_cut(column, value);
-        }
-        self.count_row(label, value);
+        *self = self.step(column, label, value);
+    }
+
+    // Whether a row of that value is only counted.
+    #[tactic(auto, unfolding(crate::specs::OneSide::quiet))]
+    pub fn is_only_counting(&self, value: f64) -> bool
+        ensures { result ≡ quiet self.now value }
+    {
+        is_quiet(self.previous, value, self.fallen())
+    }
+
+    // Such a row of an open side, counted in its place: the same as `advance`, but no record is copied.
+    #[tactic(auto, unfolding(crate::specs::OneSide::count_row, crate::specs::OneSide::only_counted, crate::specs::OneSide::raised))]
+    pub fn count(&mut self, label: usize, value: f64)
+        requires { Ready self.old label }
+        ensures { self.new ≡ only_counted self.old label value }
+    {
+        self.seen[label] += 1;
+        self.skip = self.fallen();
+        self.go_past(value);
     }
 
     // The cut before a row, scored.
@@ -94,8 +134,11 @@ impl SideScan {
         requires { Cuttable self.old }
         ensures { self.new ≡ cut_scored self.old column value }
     {
+        // the counts are read beside the record, so that its numbers can stay in registers
+        let own = self.own;
+        let seen = self.seen;
         let cut = Cut {
-            peaks: find_peaks(&self.own, &self.seen, self.labels),
+            peaks: find_peaks(&own, &seen, self.labels),
             counted: self.counted,
             rest: self.size - self.counted,
         };
@@ -109,13 +152,11 @@ impl SideScan {
         }
     }
 
-    fn count_row(&mut self, label: usize, value: f64)
-        requires coded { label < most_labels }
-        requires within { counted_of self.old label ≤ self.old.counted }
-        requires few { self.old.counted < most_rows }
-        ensures { self.new ≡ count_row self.old self.old.best self.old.skip self.old.closed label value }
+    // A row gone past, but for its label and the skip.
+    fn go_past(&mut self, value: f64)
+        requires { self.old.counted < most_rows }
+        ensures { self.new ≡ gone_past self.old value }
     {
-        self.seen[label] += 1;
         self.counted += 1;
         self.previous = Some(value);
     }

@@ -23,21 +23,22 @@ bounds-sides-side-then-not-sides-side c = side_in _ _ _ _ c.requires _ _ _ c.loo
 pub bounds-values-base : goal.bounds-values-base
 bounds-values-base c = omega (arith, row_in _ _ _ _ c.requires _ _ _ c.loop-i.invariant c.loop-i-test.true _ c.from-row.ensures, c.requires.valued)
 
-pub advance-requires : goal.advance-requires
-advance-requires c = taken _ _ _ _ c.requires _ _ _ c.loop-i.invariant c.loop-i-test.true _ c.from-row.ensures _ c.from-label.ensures
+pub take_row-requires-clause-ready : goal.take_row-requires-clause-ready
+take_row-requires-clause-ready c =
+    taken _ _ _ _ c.requires _ _ _ c.loop-i.invariant c.loop-i-test.true _ c.from-row.ensures _ c.from-label.ensures c.if-not-sides-side.true
 
 pub is_over-requires-clause-own_in : goal.is_over-requires-clause-own_in
 is_over-requires-clause-own_in c = side_in _ _ _ _ c.requires _ _ _ c.loop-i.invariant c.loop-i-test.true _ c.from-row.ensures
 
 pub is_over-requires-clause-within : goal.is_over-requires-clause-within
-is_over-requires-clause-within c = none_past _ _ _ _ c.requires _ _ _ c.loop-i.invariant c.loop-i-test.true _ c.from-row.ensures _ c.from-label.ensures _ c.advance.ensures
+is_over-requires-clause-within c = none_past _ _ _ _ c.requires _ _ _ c.loop-i.invariant c.loop-i-test.true _ c.from-row.ensures _ c.from-label.ensures _ c.take_row.ensures
 
 pub loop-i-preserved : goal.loop-i-preserved
 loop-i-preserved c =
     let i = c.loop-i in
     elim c.if-not-sides-side.branch [
       | then-not-sides-side+else-is_over w ↦
-          rw w.sides-is (goes_on _ _ _ _ c.requires _ _ _ i.invariant c.loop-i-test.true _ c.from-row.ensures _ w.from-label.ensures _ w.advance.ensures _ w.is_over.ensures w.if-is_over.false)
+          rw w.sides-is (goes_on _ _ _ _ c.requires _ _ _ i.invariant c.loop-i-test.true _ c.from-row.ensures _ w.from-label.ensures _ w.take_row.ensures _ w.is_over.ensures w.if-is_over.false)
       | else-not-sides-side w ↦
           rw w.sides-is (passed _ _ _ _ c.requires _ _ _ i.invariant c.loop-i-test.true _ c.from-row.ensures w.if-not-sides-side.false)
     ]
@@ -49,5 +50,5 @@ returns-after-loop-i c =
 
 pub returns-then-is_over : goal.returns-then-is_over
 returns-then-is_over c =
-    ends _ _ _ _ c.requires _ _ _ c.loop-i.invariant c.loop-i-test.true _ c.from-row.ensures _ c.from-label.ensures _ c.advance.ensures _ c.is_over.ensures c.if-is_over.true
+    ends _ _ _ _ c.requires _ _ _ c.loop-i.invariant c.loop-i-test.true _ c.from-row.ensures _ c.from-label.ensures _ c.take_row.ensures _ c.is_over.ensures c.if-is_over.true
     ∙ leaves_fresh _ _ _ _ c.requires c.told-sides _ _ c.restart.ensures c.restart-2.ensures
