@@ -49,10 +49,10 @@ pub record Seen (s : Sheet) (c found i mark : ℕ) (last : Float) (marks : List 
 -- a row taken
 module _ {s : Sheet} {c i mark : ℕ} {marks : List ℕ} (m : Marks s c i mark marks) {row : ℕ} (e : row ≡ row_at s c i) {marks' : List ℕ}
     (t : Taken s.rows row mark marks marks') (l : s.rows ≤ length marks) where
-  met_more : Marks s c (i + 1) mark marks'
+  pub met_more : Marks s c (i + 1) mark marks'
   met_more = subst (λ w. Marks s c (i + 1) mark w) (sym t.marked) (marks_more s c i mark marks m row e (omega (arith, t.in_rows)))
 
-  order_more : Clean (bad_order s c) i → Clean (bad_order s c) (i + 1)
+  pub order_more : Clean (bad_order s c) i → Clean (bad_order s c) (i + 1)
   order_more h = clean_more h (good s c i mark marks m row e t.in_rows t.unmarked)
 
 -- at the first place

@@ -1,19 +1,30 @@
 // Reason 7 of the input check: the order list has each row of the sheet once in each column.
-ghost use Rattle.std.specs.Prelude.{◌≡◌, ℕ, ◌+◌, ◌*◌, ◌<◌, ◌≤◌, length, get_or};
+ghost use Rattle.std.specs.Prelude.{◌≡◌, ℕ, ◌+◌, ◌*◌, ◌<◌, ◌≤◌, not, length, get_or, T};
 ghost use Rattle.basics.specs.Walk.{walk, place_among};
 ghost use Rattle.sheet.specs.Check.{bad_order, at_index};
 ghost use Rattle.sheet.specs.Lent.{sheet_in};
 ghost use Rattle.sheet.specs.Ready.{Shaped};
+ghost use Rattle.sheet_check.specs.Steps.{Taken, Left, Entering};
 
 use sheet::lent::LentSheet;
+
+// Whether it is a row of the sheet without the column's mark, which it has from then on.
+pub(crate) fn take_row(rows: usize, row: usize, mark: u32, marks: &mut [u32]) -> bool
+    requires { rows ≤ length marks.old }
+    ensures taken { T result → Taken rows row mark marks.old marks.new }
+    ensures left { T (not result) → Left rows row mark marks.old marks.new }
+{
+    if rows <= row || marks[row] == mark {
+        return false;
+    }
+    marks[row] = mark;
+    true
+}
 
 // The first sorted place of the column whose order entry is not below rows or was met before. A row's word becomes the column's mark as it is met:
 // no column before this one has that mark, so nothing is cleared between columns.
 fn first_bad_place(sheet: &LentSheet, column: usize, marks: &mut [u32]) -> Option<usize>
-    requires shaped { Shaped (sheet_in sheet.now) }
-    requires column_in { column < sheet.now.measured.size.columns }
-    requires room { sheet.now.measured.size.rows ≤ length marks.old }
-    requires lower_marks { (r : ℕ) → get_or marks.old r 0 ≤ column }
+    requires { Entering (sheet_in sheet.now) column marks.old }
     ensures place { let rows = sheet.now.measured.size.rows in result ≡ place_among rows (walk (bad_order (sheet_in sheet.now) column) rows 0) }
     ensures marked { (r : ℕ) → get_or marks.new r 0 ≤ column + 1 }
 {
@@ -23,10 +34,9 @@ fn first_bad_place(sheet: &LentSheet, column: usize, marks: &mut [u32]) -> Optio
     let mark = (column + 1) as u32;
     for place in 0..rows {
         let row = usize::from(order[base + place]);
-        if rows <= row || marks[row] == mark {
+        if !take_row(rows, row, mark, marks) {
             return Some(place);
         }
-        marks[row] = mark;
     }
     None
 }

@@ -3,29 +3,15 @@ ghost use Rattle.std.specs.Prelude.{◌≡◌, ℕ, ◌+◌, ◌<◌, ◌≤◌,
 ghost use Rattle.sheet.specs.Check.{content_of};
 ghost use Rattle.sheet.specs.Lent.{sheet_in};
 ghost use Rattle.sheet.specs.Ready.{Shaped, Listed};
-ghost use Rattle.sheet_check.specs.Steps.{Taken, Passed, ends_hold};
+ghost use Rattle.sheet_check.specs.Steps.{Entering, Passed, ends_hold};
 
+use crate::order_check::take_row;
 use sheet::lent::{LentSheet, Measured};
-
-// Whether it is a row of the sheet without the column's mark, which it has from then on.
-fn take_row(rows: usize, row: usize, mark: u32, marks: &mut [u32]) -> bool
-    requires { rows ≤ length marks.old }
-    ensures { T result → Taken rows row mark marks.old marks.new }
-{
-    if rows <= row || marks[row] == mark {
-        return false;
-    }
-    marks[row] = mark;
-    true
-}
 
 // Whether the column's order list has each row once, the values ascend along it, and the cuts are the places where they rise. What the cut list holds past
 // the count is not asked on the way: were a rise found there, there would be more of them than the count in the end. A NaN neither rises nor is equal.
 fn column_passes(sheet: &LentSheet, column: usize, marks: &mut [u32]) -> bool
-    requires shaped { Shaped (sheet_in sheet.now) }
-    requires column_in { column < sheet.now.measured.size.columns }
-    requires room { sheet.now.measured.size.rows ≤ length marks.old }
-    requires lower_marks { (r : ℕ) → get_or marks.old r 0 ≤ column }
+    requires { Entering (sheet_in sheet.now) column marks.old }
     ensures { T result → Passed (sheet_in sheet.now) column × ((r : ℕ) → get_or marks.new r 0 ≤ column + 1) }
 {
     let LentSheet {

@@ -41,7 +41,7 @@ loop-place-init c =
       size = refl;
       doubles = c.type_inv.values;
       seen =
-          seen_first (λ r. omega (arith, c.requires.lower_marks r)) e (c.take_row.ensures (truth c.if-not-take_row.false)) c.requires.room
+          seen_first (λ r. omega (arith, c.requires.lower_marks r)) e (c.take_row.ensures.taken (truth c.if-not-take_row.false)) c.requires.room
           (as_value_of s column 0 c.from-first.result e);
     }
 
@@ -53,7 +53,7 @@ loop-place-preserved c =
     let inv = c.loop-place.invariant in
     let m = inv.seen in
     let e : c.from-row.result ≡ row_at s column i = as_row s column i _ c.from-row.ensures in
-    let t = c.take_row-in-loop-place.ensures (truth c.if-not-take_row-2.false) in
+    let t = c.take_row-in-loop-place.ensures.taken (truth c.if-not-take_row-2.false) in
     let value : Float = get_or s.values (column * s.rows + c.from-row.result) nan in
     let double : T (fits binary64 value) = inv.doubles _ in
     let before : T (fits binary64 c.loop-place.last) = last_double s inv.doubles column i c.loop-place.last m.at in
