@@ -5,6 +5,5 @@ pub mod Steps
 pub mod Turns
 pub mod Loop
 pub mod Lent
-pub mod Marks
 pub mod Try
 pub mod Accepted

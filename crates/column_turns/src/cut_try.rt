@@ -23,6 +23,7 @@ pub(crate) const MARKS: usize = 6;
 const SPARE: usize = 7;
 
 // 0 for a place before the cut's, else 1.
+#[tactic(auto, unfolding(basics::specs::Choice::pick))]
 fn side_mark(i: usize, place: usize) -> u32
     ensures { result ≡ pick (ltb i place) 0 1 }
 {
@@ -43,6 +44,7 @@ fn mark_sides(size: Size, order: &[u16], column: usize, place: usize, marks: &mu
 }
 
 // Where the lower value of a cut's threshold stands.
+#[tactic(auto, using(crate::proofs::Try::before_next, crate::proofs::Try::before_first))]
 fn preceding_place(cuts: &[u16], base: usize, cut: usize) -> usize
     requires { base + cut < length cuts.now }
     ensures { result ≡ place_before cuts.now base cut }
@@ -54,6 +56,7 @@ fn preceding_place(cuts: &[u16], base: usize, cut: usize) -> usize
 }
 
 // A cut as the first question.
+#[tactic(auto, using(crate::proofs::Try::read_place, crate::proofs::Try::before_placed, crate::proofs::Try::threshold_is), unfolding(sheet::specs::Sheet::value_listed, leaves_score::specs::Root::cut_question))]
 fn root_question(sheet: &LentSheet, column: usize, cut: usize) -> Question
     requires { TryingCut sheet.now column cut }
     ensures { result ≡ cut_question (sheet_in sheet.now) column cut }
@@ -84,6 +87,7 @@ pub(crate) fn side_error(side: Side) -> u32
 }
 
 // The rows' marks at a cut.
+#[tactic(auto, using(crate::proofs::Lent::marks_put, crate::proofs::Lent::marks_there), unfolding(crate::specs::Lent::marks_of))]
 fn mark_cut(sheet: &LentSheet, column: usize, cut: usize, scratch: &mut [u32])
     requires { MarkingCut sheet.now column cut scratch.old }
     ensures { CutMarked sheet.now column cut scratch.old scratch.new }
@@ -96,6 +100,7 @@ fn mark_cut(sheet: &LentSheet, column: usize, cut: usize, scratch: &mut [u32])
 }
 
 // The best of each side, by the rows' marks.
+#[tactic(auto, unfolding(crate::specs::Lent::marks_of))]
 fn scan_sides(sheet: &LentSheet, support: u32, scratch: &[u32]) -> Sides
     requires { Enough sheet.now.measured.size.rows scratch.now × Scannable (scan_of (sheet_in sheet.now)) (marks_of sheet.now.measured.size.rows scratch.now) }
     ensures { result ≡ sides_of (scan_of (sheet_in sheet.now)) support (go_left (marks_of sheet.now.measured.size.rows scratch.now)) }

@@ -29,6 +29,7 @@ pub struct Reach {
 }
 
 // Steps 1 and 2: what is left of an interval.
+#[tactic(auto, unfolding(crate::specs::Steps::pruned_of, crate::specs::Lent::table_of, basics::specs::Choice::pick))]
 pub(crate) fn prune(
     rows: usize,
     terms: Terms,
@@ -52,6 +53,7 @@ pub(crate) fn prune(
 }
 
 // Steps 3 and 4: one more try; a strictly lower error replaces the tree.
+#[tactic(auto, unfolding(crate::specs::Steps::improved_by, basics::specs::Choice::pick))]
 pub(crate) fn improved(standing: Standing, tree: Tree) -> Standing
     requires { standing.tried ≤ most_columns * most_tries + most_tries }
     ensures { result ≡ improved_by standing tree }

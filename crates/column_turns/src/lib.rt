@@ -28,6 +28,7 @@ use sheet::lent::LentSheet;
 use tree::Tree;
 
 // The first interval that waits.
+#[tactic(auto, unfolding(crate::specs::Lent::ring_of))]
 fn next_interval(rows: usize, queue: Queue, scratch: &[u32]) -> Option<Popped>
     requires { Enough rows scratch.now }
     ensures { result ≡ taken (ring_of rows scratch.now) queue }
@@ -36,6 +37,7 @@ fn next_interval(rows: usize, queue: Queue, scratch: &[u32]) -> Option<Popped>
 }
 
 // One interval more.
+#[tactic(auto, using(crate::proofs::Lent::ring_became, crate::proofs::Lent::pushed_length), unfolding(crate::specs::Lent::ring_of))]
 fn add_interval(rows: usize, queue: Queue, bound: Bound, scratch: &mut [u32]) -> Queue
     requires { Enough rows scratch.old }
     ensures value { result ≡ pushed (ring_of rows scratch.old) queue }
@@ -45,6 +47,7 @@ fn add_interval(rows: usize, queue: Queue, bound: Bound, scratch: &mut [u32]) ->
 }
 
 // A part is queued if it is not empty.
+#[tactic(auto, using(crate::proofs::Queueing::part_pushed, crate::proofs::Queueing::none_queued, crate::proofs::Queueing::part_none))]
 fn queue_part(rows: usize, queue: Queue, bound: Bound, scratch: &mut [u32]) -> Queue
     requires { Pushing rows scratch.old queue bound }
     ensures { Queued rows scratch.old scratch.new queue result (part bound) }
@@ -122,6 +125,7 @@ fn queue_parts(
 }
 
 // What waits after a try: nothing if the column is over, else the parts of its interval too.
+#[tactic(auto, unfolding(basics::specs::Choice::pick))]
 fn next_queue(
     rows: usize,
     places: &[u16],
@@ -143,6 +147,7 @@ fn next_queue(
 }
 
 // The errors of a tried cut are kept, and the zero marks moved.
+#[tactic(auto, using(crate::proofs::Lent::table_became, interval_pruner::proofs::Results::recorded_length), unfolding(crate::specs::Lent::table_of))]
 fn keep_errors(
     rows: usize,
     zeros: Zeros,
@@ -161,6 +166,7 @@ fn keep_errors(
 // ---- one interval
 
 // The places of a column's cuts.
+#[tactic(auto, using(crate::proofs::Places::places_part))]
 fn places_of<'a>(sheet: &LentSheet<'a>, column: usize) -> &'a [u16]
     requires { PlacedIn sheet.now column }
     ensures { result.now ≡ places_of (sheet_in sheet.now) column }

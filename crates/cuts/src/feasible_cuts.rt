@@ -4,6 +4,7 @@ ghost use Rattle.cuts.specs.Feasible.{FeasibleRun};
 use crate::Run;
 
 // The cuts that leave at least `support` rows, and at least one, on each side.
+#[tactic(auto, using(crate::proofs::Feasible::run_none, crate::proofs::Feasible::run_some))]
 pub fn support_feasible_splits(cuts: &[u16], rows: usize, support: usize) -> Run
     ensures { FeasibleRun cuts.now rows support result }
 {

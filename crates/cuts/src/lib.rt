@@ -21,6 +21,7 @@ pub struct CutReader<'a> {
 }
 
 // Where cut number k stands; 0 for a number past the list.
+#[tactic(auto, unfolding(crate::specs::Lookups::place))]
 pub fn place_at(cuts: &[u16], k: usize) -> usize
     ensures { PlaceRead cuts.now k result }
 {
@@ -52,6 +53,7 @@ pub(crate) fn first_above(cuts: &[u16], low: usize, high: usize, value: usize) -
 }
 
 // One past the last cut to look at. An end that is not above the first cut lets the lookup run to the list's end.
+#[tactic(auto, unfolding(crate::specs::Lookups::end_of, basics::specs::Choice::pick))]
 fn end_of(cuts: &[u16], first: usize, last: usize) -> usize
     ensures { result ≡ end_of cuts.now first last }
 {
@@ -75,6 +77,7 @@ impl<'a> CutReader<'a> {
     }
 
     // The first cut from `first` to `last` that is placed above `value`, or one past the end if none is.
+    #[tactic(auto, using(crate::proofs::Lookups::end_high), unfolding(crate::specs::Lookups::upper_bound_of, crate::specs::Lookups::sought_from))]
     pub fn upper_bound(self, first: usize, last: usize, value: usize) -> usize
         ensures { Sought self.entry.places.now first last (upper_bound_of self.entry.places.now first last value) result }
     {

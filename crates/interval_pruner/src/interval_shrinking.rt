@@ -21,6 +21,7 @@ fn between(bound: Bound, first: usize, last: usize) -> Option<Bound>
 }
 
 // Past the highest cut with left error 0, and short of the lowest with right error 0.
+#[tactic(auto, using(crate::proofs::Shrinking::within_none), unfolding(crate::specs::Pruner::past))]
 fn between_zeros(zeros: Zeros, bound: Bound) -> Option<Bound>
     ensures { result ≡ interval_within bound (past zeros.left bound.first) (short zeros.right bound.last) }
 {
@@ -35,6 +36,7 @@ fn between_zeros(zeros: Zeros, bound: Bound) -> Option<Bound>
 }
 
 // Where a remembered cut's error says that the cuts near it are no better: its place, and how far from it a better one stands at least.
+#[tactic(auto, using(crate::proofs::Shrinking::kept_under, crate::proofs::Shrinking::kept_over), unfolding(crate::specs::Steps::kept_off, crate::specs::Column::left_error, crate::specs::Column::right_error))]
 fn kept_off(
     cuts: &[u16],
     table: &[u32],
@@ -51,6 +53,7 @@ fn kept_off(
 }
 
 // The cuts near the one remembered on the left are too near to be better.
+#[tactic(auto, using(crate::proofs::Shrinking::start_kept, crate::proofs::Shrinking::start_moved))]
 fn away_from_left(cuts: &[u16], table: &[u32], bound: Bound, gap: u32, best: u32) -> Option<Bound>
     ensures { Ascending cuts.now →
         result ≡ interval_within bound (start_after (recorded_column cuts.now table.now gap true) best bound.left bound.first) bound.last }
@@ -63,6 +66,7 @@ fn away_from_left(cuts: &[u16], table: &[u32], bound: Bound, gap: u32, best: u32
 }
 
 // The interval up to the first cut placed above `x`.
+#[tactic(auto, using(cuts::proofs::Lookups::sought_min), unfolding(crate::specs::Pruner::end_above, cuts::specs::Lookups::upper_bound_of, basics::specs::Choice::pick))]
 fn up_to(cuts: &[u16], bound: Bound, x: usize) -> Option<Bound>
     ensures { Ascending cuts.now →
         result ≡ end_above (recorded_column cuts.now [] 0 true) bound x bound.first bound.last }
@@ -75,6 +79,7 @@ fn up_to(cuts: &[u16], bound: Bound, x: usize) -> Option<Bound>
 }
 
 // The cuts near the one remembered on the right are too near to be better.
+#[tactic(auto, using(crate::proofs::Shrinking::end_kept, crate::proofs::Shrinking::end_moved), unfolding(crate::specs::Pruner::end_above))]
 fn away_from_right(cuts: &[u16], table: &[u32], bound: Bound, gap: u32, best: u32) -> Option<Bound>
     ensures { Ascending cuts.now →
         result ≡ end_before (recorded_column cuts.now table.now gap true) best bound.right bound bound.first bound.last }

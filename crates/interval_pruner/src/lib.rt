@@ -46,6 +46,7 @@ fn store(table: &mut [u32], i: usize, error: u32)
 }
 
 // A cut past the table is not stored, and twice its number is not asked for, since that might not fit.
+#[tactic(auto, unfolding(crate::specs::Pruner::recorded_after))]
 fn store_both(table: &mut [u32], cut: usize, left: u32, right: u32)
     ensures { table.new ≡ recorded_after table.old cut left right }
 {

@@ -26,6 +26,7 @@ fn past_zero(count: usize, zero: Option<usize>, first: usize) -> usize
 
 // Where the part above the tried cut begins. The Rust answers one past the interval where none of its cuts is far enough; here the lookup runs along
 // the list, since its end is not above its first cut, and what is queued is the same.
+#[tactic(auto, using(crate::proofs::Neighbours::upper_far, crate::proofs::Neighbours::upper_near, crate::proofs::Neighbours::upper_large))]
 fn upper_from(cuts: &[u16], zeros: Zeros, distance: usize, cut: usize, small: bool) -> usize
     requires { distance < 2 * 2 ^ 32 }
     ensures { PartsListed cuts.now zeros cut →
@@ -42,6 +43,7 @@ fn upper_from(cuts: &[u16], zeros: Zeros, distance: usize, cut: usize, small: bo
 }
 
 // Where the part below the tried cut ends if some distance is to be kept from it.
+#[tactic(auto, using(crate::proofs::Neighbours::lower_none, crate::proofs::Neighbours::lower_some))]
 fn lower_near(cuts: &[u16], zeros: Zeros, distance: usize, cut: usize, first: usize) -> usize
     requires { distance < 2 * 2 ^ 32 }
     ensures { Ascending cuts.now →
@@ -56,6 +58,7 @@ fn lower_near(cuts: &[u16], zeros: Zeros, distance: usize, cut: usize, first: us
 }
 
 // Where the part below the tried cut ends. At distance 0 it keeps the tried cut.
+#[tactic(auto, using(crate::proofs::Neighbours::lower_far, crate::proofs::Neighbours::lower_near_lem, crate::proofs::Neighbours::lower_large), unfolding(crate::specs::Pruner::lower_near))]
 fn lower_to(
     cuts: &[u16],
     zeros: Zeros,
@@ -79,6 +82,7 @@ fn lower_to(
 }
 
 // The two parts round a tried cut of an interval that begins at `first`; `excess` is how far the cut's error lies above the best.
+#[tactic(auto, unfolding(crate::specs::Pruner::parts_of, crate::specs::Pruner::upper_from, crate::specs::Pruner::lower_to, crate::specs::Pruner::lower_near))]
 pub fn neighbourhood_pruning(
     cuts: &[u16],
     zeros: Zeros,

@@ -20,6 +20,7 @@ fn held(table: &[u32], tried: Option<usize>) -> (usize, usize)
 }
 
 // Whether the interval can be dropped for what is known of the cuts beside it. It holds whatever the cuts' places are.
+#[tactic(auto, unfolding(crate::specs::Pruner::hopeless, crate::specs::Column::left_error, crate::specs::Column::right_error))]
 pub fn subinterval_pruning(table: &[u32], bound: Bound, gap: u32, best: u32, small: bool) -> bool
     ensures { DroppedOf table.now bound gap best small result }
 {

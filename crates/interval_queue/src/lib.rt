@@ -30,6 +30,7 @@ const RIGHT: usize = 3;
 const WORDS: usize = 4;
 
 // The ring's slot k places after the head.
+#[tactic(auto, unfolding(crate::specs::Ring::slot_of, basics::specs::Choice::pick))]
 fn slot(head: usize, k: usize, slots: usize) -> usize
     requires { (head < slots) × (k ≤ slots) × (slots ≤ 0xffff_ffff_ffff_ffff / 4) }
     ensures { (result ≡ slot_of head k slots) × (result < slots) }
@@ -90,6 +91,7 @@ fn load(words: &[u32], at: usize) -> Bound
 }
 
 // One interval more at the end; a full ring stays as it is.
+#[tactic(auto, using(crate::proofs::Cases::push_out, crate::proofs::Cases::push_out_words, crate::proofs::Cases::push_full, crate::proofs::Cases::push_full_words, crate::proofs::Cases::push_room, crate::proofs::Cases::push_room_words))]
 pub fn push(words: &mut [u32], queue: Queue, bound: Bound) -> Queue
     ensures { PushedTo words.old queue bound result words.new }
 {
@@ -110,6 +112,7 @@ pub fn push(words: &mut [u32], queue: Queue, bound: Bound) -> Queue
 }
 
 // The first interval off the queue; none where none waits, or the head is no slot.
+#[tactic(auto, using(crate::proofs::Cases::take_out, crate::proofs::Cases::take_none, crate::proofs::Cases::take_some, crate::proofs::Cases::pop_some))]
 pub fn pop(words: &[u32], queue: Queue) -> Option<Popped>
     ensures { result ≡ taken words.now queue }
 {

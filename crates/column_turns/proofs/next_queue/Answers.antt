@@ -1,5 +1,5 @@
 -- `column_turns::next_queue` meets its contract. By whether the column ends.
-use mathlib.Core.Path.{refl, sym, ap, ◌∙◌}
+use mathlib.Core.Path.{refl, sym, ap}
 use native.Mathlib.Omega.{arith}
 use mathlib.Core.List.{List, ◌++◌, []}
 use mathlib.Core.Bool.{Bool}
@@ -23,20 +23,4 @@ returns-then-over c =
       sane = record { head_in = start.requires.sane.head_in; few = omega arith };
       table_is = refl;
       kept = kept_same a.rows a.scratch.now;
-    }
-
-pub returns : goal.returns
-unfolding pick
-returns c =
-    let start = c in
-    let a = start.args in
-    let all : List Bound =
-    contents (ring_of a.rows a.scratch.now) a.queue ++ parted a.places.now a.parting in
-    let call = c.queue_parts in
-    let queued = call.ensures in
-    record {
-      contents_are = queued.contents_are ∙ sym (ap (λ (b : Bool). pick b [] all) c.if-over.false);
-      sane = queued.sane;
-      table_is = queued.table_is;
-      kept = queued.kept;
     }

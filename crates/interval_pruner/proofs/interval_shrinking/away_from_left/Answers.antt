@@ -1,10 +1,7 @@
 -- `interval_pruner::interval_shrinking::away_from_left` meets its contract: it starts where the remembered cut lets it.
 use mathlib.Core.Path.{sym, ◌∙◌}
-use Rattle.interval_pruner.proofs.Shrinking.{start_kept, start_moved}
+use Rattle.interval_pruner.proofs.Shrinking.{start_moved}
 use Rattle.interval_pruner.proofs.interval_shrinking.away_from_left.Goals as goal
-
-pub returns-in_default : goal.returns-in_default
-returns-in_default c = λ up. c.between.ensures ∙ start_kept _ _ _ _ _ _ (sym c.kept_off.ensures.value ∙ c.in_default.is)
 
 pub returns : goal.returns
 returns c =

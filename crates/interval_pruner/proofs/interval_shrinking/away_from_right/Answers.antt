@@ -5,11 +5,8 @@ use mathlib.Core.Bool.{true}
 use mathlib.Core.List.{[]}
 use Rattle.interval_pruner.specs.Column.{recorded_column}
 use Rattle.interval_pruner.specs.Pruner.{end_above}
-use Rattle.interval_pruner.proofs.Shrinking.{end_kept, end_moved}
+use Rattle.interval_pruner.proofs.Shrinking.{end_moved}
 use Rattle.interval_pruner.proofs.interval_shrinking.away_from_right.Goals as goal
-
-pub returns-in_default : goal.returns-in_default
-returns-in_default c = λ up. c.between.ensures ∙ end_kept _ _ _ _ _ _ (sym c.kept_off.ensures.value ∙ c.in_default.is)
 
 pub returns : goal.returns
 unfolding end_above

@@ -21,9 +21,6 @@ module _ (c : Column) (b : ℕ) (t : Option ℕ) where
     over : b ≤ sum_of c k → (p d : ℕ) → p ≡ place_in c k → d ≡ sum_of c k - b + 1 → Some (p, d) ≡ kept_off c b t
     over h p d q r = (λ i. Some (q i, r i)) ∙ sym (ap (kept_off c b) e ∙ kept_over c b k h)
 
-pub returns-in_err-cut-clause-value : goal.returns-in_err-cut-clause-value
-returns-in_err-cut-clause-value c = c.from_residual.ensures ∙ nothing _ _ _ c.in_err-cut.was
-
 pub returns-in_err-over-clause-value : goal.returns-in_err-over-clause-value
 unfolding left_error right_error
 returns-in_err-over-clause-value c =

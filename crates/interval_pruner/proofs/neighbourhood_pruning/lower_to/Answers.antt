@@ -1,7 +1,7 @@
 -- `interval_pruner::neighbourhood_pruning::lower_to` meets its contract: each way is one of the definition's.
 use mathlib.Core.Path.{◌∙◌}
 use Rattle.interval_pruner.specs.Pruner.{lower_near}
-use Rattle.interval_pruner.proofs.Neighbours.{lower_far, lower_near_lem, lower_large}
+use Rattle.interval_pruner.proofs.Neighbours.{lower_far}
 use Rattle.interval_pruner.proofs.neighbourhood_pruning.lower_to.Goals as goal
 
 pub returns-then-distance-gt0 : goal.returns-then-distance-gt0
@@ -9,13 +9,3 @@ unfolding lower_near
 returns-then-distance-gt0 c =
     let a = c.args in
     λ up. c.lower_near.ensures up ∙ lower_far _ a.zeros a.distance a.cut a.first c.if-small.true c.if-distance-gt0.true
-
-pub returns-then-small : goal.returns-then-small
-returns-then-small c =
-    let a = c.args in
-    λ up. lower_near_lem _ a.zeros a.distance a.cut a.first c.if-small.true c.if-distance-gt0.false
-
-pub returns : goal.returns
-returns c =
-    let a = c.args in
-    λ up. c.saturating_sub-before.ensures ∙ lower_large _ a.zeros a.distance a.cut a.first c.if-small.false
