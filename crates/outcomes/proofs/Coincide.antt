@@ -2,7 +2,7 @@
 use mathlib.Core.Path.{sym, ◌∙◌}
 use Rattle.prepare.proofs.Soundness.{determined}
 use Rattle.rule_finder.proofs.Laws.{outcomes_coincide}
-use Rattle.outcomes.specs.Outcomes.{Equation, ThresholdBetween, GoesLeft, RangeAnswer, SentLeft, LeftOfCut, FirstBadValue, FirstBadLabel, SizeHolds, GridHolds, TermsHold, Check, Prepare, PlaceAt, ReaderLowerBound, ReaderUpperBound, LowerBound, UpperBound, FeasibleSplits, AddResult, SubintervalPruning, IntervalShrinking, NeighbourhoodPruning, Push, Pop, GetLeavesScore, Search, Judge, ReadSheet, WriteAnswer, BitsOf, RunText, TellPrepared, TellChecked, TellSearched, FinderPrepare, FinderCheck, FinderSearch}
+use Rattle.outcomes.specs.Outcomes.{Equation, ThresholdBetween, GoesLeft, RangeAnswer, SentLeft, LeftOfCut, FirstBadValue, FirstBadLabel, SizeHolds, GridHolds, TermsHold, Check, Prepare, PlaceAt, ReaderLowerBound, ReaderUpperBound, LowerBound, UpperBound, FeasibleSplits, AddResult, SubintervalPruning, IntervalShrinking, NeighbourhoodPruning, Push, Pop, GetLeavesScore, Search, Judge, ReadSheet, WriteAnswer, BitsOf, RunText, TellVerdict, TellSearched, FinderPrepare, FinderCheck, FinderSearch}
 
 pub equation : Equation
 equation A said a b p q = p ∙ sym q
@@ -100,11 +100,8 @@ bits_of x a b p q = p ∙ sym q
 pub run_text : RunText
 run_text = outcomes_coincide
 
-pub tell_prepared : TellPrepared
-tell_prepared done answer a b p q = p ∙ sym q
-
-pub tell_checked : TellChecked
-tell_checked checked answer a b p q = p ∙ sym q
+pub tell_verdict : TellVerdict
+tell_verdict verdict answer a b p q = p ∙ sym q
 
 pub tell_searched : TellSearched
 tell_searched found answer a b p q = p ∙ sym q

@@ -1,44 +1,42 @@
 -- For a signer. "show that two outcomes fitting the contract coincide, or list the exception and why": one statement for each public function,
 -- over its result and every lent word at exit. A contract is an equation, so each says the same of what the equation names. Statements only;
 -- `proofs/Coincide.antt` proves them.
-use Rattle.std.specs.Prelude.{◌≡◌, ℕ, Bool, List, length, get_or, Float}
+use Rattle.std.specs.Prelude.{◌≡◌, ℕ, Bool, List, length, get_or, Option, Result, Float}
 use Rattle.std.specs.Float.{binary64}
 use Rattle.std.specs.Float.Ieee.{to_bits}
-use Rattle.basics.specs.Walk.{walk}
+use Rattle.basics.specs.Walk.{place_among}
 use Rattle.threshold.specs.Threshold.{threshold_of, goes_left, within}
 use Rattle.threshold.specs.Column.{count_left, left_of_cut}
 use Rattle.sheet.specs.declared.Terms.{Terms}
-use Rattle.sheet.specs.declared.Checked.{Checked}
+use Rattle.sheet.specs.declared.refusals.Refusal.{Refusal}
 use Rattle.sheet.specs.Sheet.{Sheet}
-use Rattle.sheet.specs.Check.{bad_value, bad_label, grid_holds, size_holds, terms_hold, check_of, scratch_after}
+use Rattle.sheet.specs.Check.{first_bad_value, first_bad_label, grid_holds, size_holds, terms_hold, Verdict, check_of, scratch_after}
 use Rattle.cuts.specs.declared.CutReader.{CutReader}
 use Rattle.cuts.specs.declared.Run.{Run}
 use Rattle.cuts.specs.Lookups.{Ascending, place, lower_bound_of, upper_bound_of}
 use Rattle.cuts.specs.Feasible.{feasible_of}
 use Rattle.interval_pruner.specs.declared.Bound.{Bound}
 use Rattle.interval_pruner.specs.declared.Zeros.{Zeros}
-use Rattle.interval_pruner.specs.declared.Shrunk.{Shrunk}
 use Rattle.interval_pruner.specs.declared.Parts.{Parts}
 use Rattle.interval_pruner.specs.Column.{Column}
 use Rattle.interval_pruner.specs.Pruner.{zeros_after, recorded_after, hopeless, shrunk_of, parts_of, PartsListed}
 use Rattle.interval_queue.specs.declared.Queue.{Queue}
 use Rattle.interval_queue.specs.declared.Popped.{Popped}
-use Rattle.interval_queue.specs.Ring.{pushed, pushed_words, popped}
+use Rattle.interval_queue.specs.Ring.{pushed, pushed_words, taken}
 use Rattle.tree.specs.declared.Tree.{Tree}
 use Rattle.tree.specs.declared.Answer.{Answer}
 use Rattle.leaves_score.specs.declared.Sides.{Sides}
 use Rattle.leaves_score.specs.Scan.{sides_of}
 use Rattle.depth2.specs.Search.{search_of, scratch_of}
-use Rattle.judge.specs.declared.Verdict.{Verdict}
+use Rattle.judge.specs.declared.judge_rows.Judgement.{Judgement}
 use Rattle.judge.specs.Judge.{judge_of}
-use Rattle.prepare.specs.declared.Prepared.{Prepared}
 use Rattle.prepare.specs.Laws.{Determined}
-use Rattle.sheet_bytes.specs.declared.Read.{Read}
+use Rattle.sheet_bytes.specs.declared.Head.{Head}
 use Rattle.sheet_bytes.specs.Read as bytes
 use Rattle.listing.specs.Listing.{written_of, out_of}
 use Rattle.rule_finder.specs.Laws as finder
 use Rattle.c_face.specs.Numbers.{terms_in}
-use Rattle.c_face.specs.Told.{written, prepared_told, checked_told}
+use Rattle.c_face.specs.Told.{written, verdict_told}
 use Rattle.c_face.specs.Rule.{search_words}
 use Rattle.c_face.specs.Face.{sheet_in, prepare_answer, check_answer, search_answer}
 
@@ -70,10 +68,10 @@ LeftOfCut = (values : List Float) (at : ℕ) → One ℕ (left_of_cut values at)
 -- ---- the sheet
 
 abbrev pub FirstBadValue : Type 0
-FirstBadValue = (values : List Float) → One ℕ (walk (bad_value values) (length values) 0)
+FirstBadValue = (values : List Float) → One (Option ℕ) (place_among (length values) (first_bad_value values))
 
 abbrev pub FirstBadLabel : Type 0
-FirstBadLabel = (codes : List ℕ) (labels : ℕ) → One ℕ (walk (bad_label codes labels) (length codes) 0)
+FirstBadLabel = (codes : List ℕ) (labels : ℕ) → One (Option ℕ) (place_among (length codes) (first_bad_label codes labels))
 
 abbrev pub SizeHolds : Type 0
 SizeHolds = (rows columns labels : ℕ) → One Bool (size_holds rows columns labels)
@@ -87,7 +85,7 @@ TermsHold = (t : Terms) → One Bool (terms_hold t)
 abbrev pub Check : Type 0
 Check =
     (s : Sheet) (t : Terms) (scratch : List ℕ)
-    → One (Checked × List ℕ) (check_of s t (length scratch), scratch_after (check_of s t (length scratch)) s.rows scratch)
+    → One (Verdict × List ℕ) (check_of s t (length scratch), scratch_after (check_of s t (length scratch)) s.rows scratch)
 
 -- `prepare`
 abbrev pub Prepare : Type 0
@@ -127,7 +125,7 @@ abbrev pub SubintervalPruning : Type 0
 SubintervalPruning = (c : Column) (best : ℕ) (bound : Bound) → One Bool (hopeless c best bound)
 
 abbrev pub IntervalShrinking : Type 0
-IntervalShrinking = (c : Column) (zeros : Zeros) (best : ℕ) (bound : Bound) → Ascending c.places → One Shrunk (shrunk_of c zeros best bound)
+IntervalShrinking = (c : Column) (zeros : Zeros) (best : ℕ) (bound : Bound) → Ascending c.places → One (Option Bound) (shrunk_of c zeros best bound)
 
 abbrev pub NeighbourhoodPruning : Type 0
 NeighbourhoodPruning =
@@ -137,7 +135,7 @@ abbrev pub Push : Type 0
 Push = (words : List ℕ) (queue : Queue) (bound : Bound) → One (Queue × List ℕ) (pushed words queue, pushed_words words queue bound)
 
 abbrev pub Pop : Type 0
-Pop = (words : List ℕ) (queue : Queue) → One Popped (popped words queue)
+Pop = (words : List ℕ) (queue : Queue) → One (Option Popped) (taken words queue)
 
 -- ---- the scan, the search and the judge
 
@@ -149,15 +147,15 @@ abbrev pub Search : Type 0
 Search = (s : Sheet) (t : Terms) (scratch : List ℕ) → One (Answer × List ℕ) (search_of s t (length scratch), scratch_of s t scratch)
 
 abbrev pub Judge : Type 0
-Judge = (s : Sheet) (tree : Tree) → One Verdict (judge_of s tree)
+Judge = (s : Sheet) (tree : Tree) → One (Result Judgement Refusal) (judge_of s tree)
 
 -- ---- the program's bytes
 
 abbrev pub ReadSheet : Type 0
 ReadSheet =
     (sheet : List ℕ) (values : List Float) (codes : List ℕ)
-    → let read : Read = bytes.read_answer sheet (length values) (length codes) in
-    One (Read × (List Float × List ℕ)) (read, (bytes.values_in read sheet values, bytes.codes_in read sheet codes))
+    → let read : Result Head Refusal = bytes.read_answer sheet (length values) (length codes) in
+    One (Result Head Refusal × (List Float × List ℕ)) (read, (bytes.values_in read sheet values, bytes.codes_in read sheet codes))
 
 abbrev pub WriteAnswer : Type 0
 WriteAnswer = (answer : Answer) (out : List ℕ) → One (ℕ × List ℕ) (written_of answer out, out_of answer out)
@@ -171,11 +169,9 @@ RunText = finder.RunsCoincide
 
 -- ---- callers from C: the answer's words, and scratch
 
-abbrev pub TellPrepared : Type 0
-TellPrepared = (done : Prepared) (answer : List ℕ) → One (List ℕ) (prepared_told done answer)
-
-abbrev pub TellChecked : Type 0
-TellChecked = (checked : Checked) (answer : List ℕ) → One (List ℕ) (checked_told checked answer)
+-- of the preparer and of the check
+abbrev pub TellVerdict : Type 0
+TellVerdict = (verdict : Verdict) (answer : List ℕ) → One (List ℕ) (verdict_told verdict answer)
 
 abbrev pub TellSearched : Type 0
 TellSearched = (found : Answer) (answer : List ℕ) → One (List ℕ) (written (search_words found) answer)
@@ -184,13 +180,13 @@ TellSearched = (found : Answer) (answer : List ℕ) → One (List ℕ) (written 
 abbrev pub FinderPrepare : Type 0
 FinderPrepare =
     (numbers : List ℕ) (values : List Float) (order cuts counts answer : List ℕ)
-    → One (List ℕ) (prepared_told (prepare_answer numbers values order cuts counts) answer)
+    → One (List ℕ) (verdict_told (prepare_answer numbers values order cuts counts) answer)
 
 abbrev pub FinderCheck : Type 0
 FinderCheck =
     (numbers : List ℕ) (values : List Float) (codes order cuts counts scratch answer : List ℕ)
-    → let checked : Checked = check_answer numbers values codes order cuts counts (length scratch) in
-    One (List ℕ × List ℕ) (checked_told checked answer, scratch_after checked (get_or numbers 0 0) scratch)
+    → let checked : Verdict = check_answer numbers values codes order cuts counts (length scratch) in
+    One (List ℕ × List ℕ) (verdict_told checked answer, scratch_after checked (get_or numbers 0 0) scratch)
 
 abbrev pub FinderSearch : Type 0
 FinderSearch =
