@@ -154,18 +154,19 @@ fn first_bad<F: Fn(usize) -> bool>(count: usize, bad: F) -> Option<usize>
     None
 }
 
-// A sheet's bytes, with the numbers of their header.
+// A sheet's bytes, with the numbers of their header, once these have passed their tests.
 #[derive(Clone, Copy)]
 struct SheetBytes<'a> {
     bytes: &'a [u8],
     head: Head,
+    ghost small: { SmallHead head },
 }
 
 impl SheetBytes<'_> {
     // Where a row's record starts; that of the row past the last is the end.
     #[tactic(auto, unfolding(crate::specs::Read::row_start))]
     fn start_of(&self, row: usize) -> usize
-        requires { (self.now.head.size.columns ≤ most_columns) × (row ≤ most_read) }
+        requires { row ≤ most_read }
         ensures place { result ≡ row_start self.now.head.size.columns row }
         ensures low { result ≤ last_start }
     {
@@ -174,7 +175,7 @@ impl SheetBytes<'_> {
 
     #[tactic(auto, unfolding(crate::specs::Read::row_bad))]
     fn row_bad(&self, row: usize) -> bool
-        requires { SmallHead self.now.head × (row < self.now.head.size.rows) }
+        requires { row < self.now.head.size.rows }
         ensures { result ≡ row_bad self.now.bytes.now self.now.head row }
     {
         let start = self.start_of(row);
@@ -183,7 +184,6 @@ impl SheetBytes<'_> {
 
     #[tactic(auto, unfolding(crate::specs::Read::further))]
     fn has_further(&self) -> bool
-        requires { SmallHead self.now.head }
         ensures { result ≡ further self.now.bytes.now self.now.head }
     {
         self.start_of(self.head.size.rows) < self.bytes.len()
@@ -192,7 +192,7 @@ impl SheetBytes<'_> {
     // Where the bits of a value stand.
     #[tactic(auto, unfolding(crate::specs::Read::cell_at))]
     fn cell_at(&self, index: usize) -> usize
-        requires { SmallHead self.now.head × (index < head_cells self.now.head) }
+        requires { index < head_cells self.now.head }
         ensures place { result ≡ cell_at self.now.head index }
         ensures low { result < 2 ^ 30 }
     {
@@ -203,7 +203,7 @@ impl SheetBytes<'_> {
 
     #[tactic(auto, unfolding(crate::specs::Read::bits_of))]
     fn bits_at(&self, index: usize) -> u64
-        requires { SmallHead self.now.head × (index < head_cells self.now.head) }
+        requires { index < head_cells self.now.head }
         ensures { result ≡ bits_of self.now.bytes.now self.now.head index }
     {
         u64_at(self.bytes, self.cell_at(index))
@@ -211,7 +211,7 @@ impl SheetBytes<'_> {
 
     #[tactic(auto, unfolding(crate::specs::Read::value_bad, crate::specs::Read::value_read))]
     fn value_bad(&self, index: usize) -> bool
-        requires { SmallHead self.now.head × (index < head_cells self.now.head) }
+        requires { index < head_cells self.now.head }
         ensures { result ≡ value_bad self.now.bytes.now self.now.head index }
     {
         !bits_within(self.bits_at(index))
@@ -219,7 +219,7 @@ impl SheetBytes<'_> {
 
     #[tactic(auto, unfolding(crate::specs::Read::code_of))]
     fn code_at(&self, row: usize) -> u8
-        requires { SmallHead self.now.head × (row < self.now.head.size.rows) }
+        requires { row < self.now.head.size.rows }
         ensures { result ≡ code_of self.now.bytes.now self.now.head row }
     {
         byte_at(self.bytes, self.start_of(row) + CODE_PLACE)
@@ -227,7 +227,7 @@ impl SheetBytes<'_> {
 
     #[tactic(auto, unfolding(crate::specs::Read::code_bad))]
     fn code_bad(&self, row: usize) -> bool
-        requires { SmallHead self.now.head × (row < self.now.head.size.rows) }
+        requires { row < self.now.head.size.rows }
         ensures { result ≡ code_bad self.now.bytes.now self.now.head row }
     {
         self.head.size.labels <= usize::from(self.code_at(row))
@@ -236,7 +236,6 @@ impl SheetBytes<'_> {
     // Reasons 4, 5 and 6.
     #[tactic(auto, unfolding(crate::specs::Read::from_terms, crate::specs::Read::terms_bad, crate::specs::Read::first_bad, basics::specs::Choice::pick))]
     fn check_cells(&self) -> Result<Head, Refusal>
-        requires { SmallHead self.now.head }
         ensures { result ≡ from_terms self.now.bytes.now self.now.head }
     {
         let head = self.head;
@@ -254,7 +253,7 @@ impl SheetBytes<'_> {
     }
 
     fn fill_values(&self, values: &mut [f64])
-        requires { SmallHead self.now.head × (head_cells self.now.head ≤ length values.old) × Valued self.now.bytes.now self.now.head }
+        requires { (head_cells self.now.head ≤ length values.old) × Valued self.now.bytes.now self.now.head }
         ensures { values.new ≡ sets values.old 0 (values_of self.now.bytes.now self.now.head) }
     {
         for index in 0..self.head.size.columns * self.head.size.rows {
@@ -263,7 +262,7 @@ impl SheetBytes<'_> {
     }
 
     fn fill_codes(&self, codes: &mut [u8])
-        requires { SmallHead self.now.head × (self.now.head.size.rows ≤ length codes.old) }
+        requires { self.now.head.size.rows ≤ length codes.old }
         ensures { codes.new ≡ sets codes.old 0 (codes_of self.now.bytes.now self.now.head) }
     {
         for row in 0..self.head.size.rows {

@@ -8,20 +8,20 @@ use Rattle.sheet_bytes.proofs.Stores.{in_front}
 use Rattle.sheet_bytes.proofs.Stages.{accepted, small_accepted, valued_accepted}
 use Rattle.sheet_bytes.proofs.read_sheet.Goals as goal
 
+pub invariant_of-read : goal.invariant_of-read
+invariant_of-read c = record { small = small_accepted c.args.bytes.now c.in_ok-head.head (accepted c.args.bytes.now c.in_ok-head.head (sym c.check_sheet.ensures ∙ c.in_ok-head.was)) }
+
 pub fill_values-requires : goal.fill_values-requires
 fill_values-requires c =
     let bytes = c.args.bytes.now in
     let h = c.in_ok-head.head in
     let good = accepted bytes h (sym c.check_sheet.ensures ∙ c.in_ok-head.was) in
-    let s = small_accepted bytes h good in
-    (s, omega (arith, s.cells_most), valued_accepted bytes h good)
+    (omega (arith, (small_accepted bytes h good).cells_most), valued_accepted bytes h good)
 
 pub fill_codes-requires : goal.fill_codes-requires
 fill_codes-requires c =
-    let bytes = c.args.bytes.now in
-    let h = c.in_ok-head.head in
-    let s = small_accepted bytes h (accepted bytes h (sym c.check_sheet.ensures ∙ c.in_ok-head.was)) in
-    (s, omega (arith, s.rows_most))
+    let s = small_accepted c.args.bytes.now c.in_ok-head.head (accepted c.args.bytes.now c.in_ok-head.head (sym c.check_sheet.ensures ∙ c.in_ok-head.was)) in
+    omega (arith, s.rows_most)
 
 pub returns : goal.returns
 unfolding read_answer values_in codes_in values_of codes_of pick

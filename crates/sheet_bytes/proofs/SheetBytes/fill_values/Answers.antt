@@ -18,7 +18,7 @@ float_from_bits-values c =
     let a = c.args in
     let i = c.loop-index.index in
     subst (λ (b : ℕ). T (not (nan_bits binary64 b))) (sym c.bits_at.ensures)
-    (within_number (bits_of a.self.now.bytes.now a.self.now.head i) (c.requires.2 i (omega arith)))
+    (within_number (bits_of a.self.now.bytes.now a.self.now.head i) (c.requires.1 i (omega arith)))
 
 pub loop-index-preserved : goal.loop-index-preserved
 unfolding values_of value_read
