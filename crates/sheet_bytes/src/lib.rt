@@ -61,39 +61,36 @@ fn byte_at(bytes: &[u8], at: usize) -> u8
 
 // The bytes from a place on, 0 past the end.
 fn bytes_at<const N: usize>(bytes: &[u8], at: usize) -> [u8; N]
-    requires { (at < 2 ^ 32) × (N ≤ 8) }
     ensures { (i : ℕ) → i < N → get_or result i 0 ≡ byte_at bytes.now (at + i) }
 {
+    let rest = bytes.get(at..).unwrap_or(&[]);
     let mut read = [0; N];
     for i in 0..N {
-        read[i] = byte_at(bytes, at + i);
+        read[i] = byte_at(rest, i);
     }
     read
 }
 
 fn u16_at(bytes: &[u8], at: usize) -> u16
-    requires { at < 2 ^ 32 }
     ensures { result ≡ number_at 2 bytes.now at }
 {
     u16::from_le_bytes(bytes_at(bytes, at))
 }
 
 fn u32_at(bytes: &[u8], at: usize) -> u32
-    requires { at < 2 ^ 32 }
     ensures { result ≡ number_at 4 bytes.now at }
 {
     u32::from_le_bytes(bytes_at(bytes, at))
 }
 
 fn u64_at(bytes: &[u8], at: usize) -> u64
-    requires { at < 2 ^ 32 }
     ensures { result ≡ number_at 8 bytes.now at }
 {
     u64::from_le_bytes(bytes_at(bytes, at))
 }
 
 fn is_marked(bytes: &[u8], at: usize, mark: &[u8; 2]) -> bool
-    requires { (at < 2 ^ 32) × (at + 2 ≤ length bytes.now) }
+    requires { at + 2 ≤ length bytes.now }
     ensures { result ≡ marked (record { first = get_or mark.now 0 0; second = get_or mark.now 1 0 }) bytes.now at }
 {
     bytes[at..at + 2] == mark[..]
@@ -193,8 +190,7 @@ impl SheetBytes<'_> {
     #[tactic(auto, unfolding(crate::specs::Read::cell_at))]
     fn cell_at(&self, index: usize) -> usize
         requires { index < head_cells self.now.head }
-        ensures place { result ≡ cell_at self.now.head index }
-        ensures low { result < 2 ^ 30 }
+        ensures { result ≡ cell_at self.now.head index }
     {
         let row = index % self.head.size.rows;
         let column = index / self.head.size.rows;

@@ -6,4 +6,4 @@ use native.Mathlib.Omega.{arith}
 
 pub returns : goal.returns
 returns c =
-    c.eq.ensures ∙ two_marked c.args.bytes.now c.args.mark.now c.args.at _ (omega arith) c.requires.1 c.told-mark
+    c.eq.ensures ∙ two_marked c.args.bytes.now c.args.mark.now c.args.at _ (omega arith) c.requires c.told-mark
