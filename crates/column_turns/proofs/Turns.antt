@@ -19,6 +19,7 @@ use Rattle.cuts.specs.Lookups.{Ascending}
 use Rattle.cuts.proofs.Feasible.{feasible_exactly}
 use Rattle.std.specs.Prelude.{Option, Some, None}
 use Rattle.interval_pruner.specs.declared.Bound.{Bound}
+use Rattle.interval_pruner.specs.declared.Reach.{Reach}
 use Rattle.interval_pruner.specs.declared.Zeros.{Zeros}
 use Rattle.interval_pruner.specs.Column as column
 use Rattle.interval_pruner.specs.Column.{Column, left_error, right_error, recorded}
@@ -37,7 +38,6 @@ use Rattle.column_search.proofs.Kept.{cut_map}
 use Rattle.column_search.proofs.Same.{recalls, same_hope, same_shrunk}
 use Rattle.column_search.proofs.Steps.{shrunk_in_lem}
 use Rattle.column_turns.specs.declared.interval_steps.Standing.{Standing}
-use Rattle.column_turns.specs.declared.interval_steps.Reach.{Reach}
 use Rattle.column_turns.specs.declared.Course.{Course}
 use Rattle.column_turns.specs.declared.Attempt.{Attempt}
 use Rattle.column_turns.specs.Lent.{table_of, ring_of, RestKept}

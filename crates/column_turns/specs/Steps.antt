@@ -6,11 +6,11 @@ use Rattle.sheet.specs.declared.Terms.{Terms}
 use Rattle.cuts.specs.Lookups.{Ascending}
 use Rattle.tree.specs.declared.Tree.{Tree}
 use Rattle.interval_pruner.specs.declared.Bound.{Bound}
+use Rattle.interval_pruner.specs.declared.Reach.{Reach}
 use Rattle.interval_pruner.specs.declared.Zeros.{Zeros}
 use Rattle.interval_pruner.specs.Column.{Column, recorded_column}
 use Rattle.interval_pruner.specs.Pruner.{hopeless, shrunk_of}
 use Rattle.column_turns.specs.declared.interval_steps.Standing.{Standing}
-use Rattle.column_turns.specs.declared.interval_steps.Reach.{Reach}
 use Rattle.column_turns.specs.Lent.{table_of}
 
 -- steps 1 and 2: what is left of an interval, nothing where it is hopeless

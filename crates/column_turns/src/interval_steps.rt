@@ -8,7 +8,7 @@ ghost use Rattle.column_turns.specs.Steps.{PrunedBy, reach_of, improved_by, ends
 use crate::cut_try::RING;
 use interval_pruner::interval_shrinking::interval_shrinking;
 use interval_pruner::subinterval_pruning::subinterval_pruning;
-use interval_pruner::{Bound, Zeros};
+use interval_pruner::{Bound, Reach, Target, Tries, Zeros};
 use sheet::Terms;
 use tree::Tree;
 
@@ -18,14 +18,6 @@ pub struct Standing {
     pub error: u32,
     pub tried: u32,
     pub held: Option<Tree>,
-}
-
-// What step 5 takes from the terms, and how far a try's error is above the best.
-#[derive(Clone, Copy)]
-pub struct Reach {
-    pub gap: u32,
-    pub small: bool,
-    pub excess: u32,
 }
 
 // Steps 1 and 2: what is left of an interval.
@@ -42,14 +34,22 @@ pub(crate) fn prune(
     requires { Enough rows scratch.now }
     ensures { PrunedBy rows terms places.now zeros bound error scratch.now result }
 {
-    let gap = terms.gap;
-    let small = terms.support <= 1;
     let best = error.min(terms.bound);
+    let target = Target {
+        gap: terms.gap,
+        best,
+        small: terms.support <= 1,
+    };
     let table = &scratch[..RING * rows];
-    if subinterval_pruning(table, bound, gap, best, small) {
+    if subinterval_pruning(table, bound, target) {
         return None;
     }
-    interval_shrinking(places, table, zeros, bound, gap, best, small)
+    let tries = Tries {
+        cuts: places,
+        table,
+        zeros,
+    };
+    interval_shrinking(&tries, bound, target)
 }
 
 // Steps 3 and 4: one more try; a strictly lower error replaces the tree.

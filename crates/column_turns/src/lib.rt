@@ -18,10 +18,10 @@ ghost use Rattle.column_turns.specs.Parts.{PartsWaiting, Pushing, Queued, Queued
 ghost use Rattle.column_turns.specs.Course.{Attempted, Attempting, IntervalTried, Turning, Turned, Opened};
 
 use crate::cut_try::{MARKS, RING, side_error, try_cut};
-use crate::interval_steps::{Reach, Standing, ends_column, improved, prune, reach_of};
+use crate::interval_steps::{Standing, ends_column, improved, prune, reach_of};
 use cuts::feasible_cuts::support_feasible_splits;
 use interval_pruner::neighbourhood_pruning::neighbourhood_pruning;
-use interval_pruner::{Bound, Zeros};
+use interval_pruner::{Bound, Reach, Zeros};
 use interval_queue::{Popped, Queue};
 use sheet::Terms;
 use sheet::lent::LentSheet;
@@ -109,15 +109,7 @@ fn queue_parts(
     if bound.first == bound.last {
         return queue;
     }
-    let parts = neighbourhood_pruning(
-        places,
-        zeros,
-        reach.gap,
-        reach.excess,
-        bound.first,
-        cut,
-        reach.small,
-    );
+    let parts = neighbourhood_pruning(places, zeros, reach, bound.first, cut);
     let upper = upper_part(bound, cut, parts.upper);
     let lower = lower_part(bound, cut, parts.lower);
     let more = queue_part(rows, queue, upper, scratch);

@@ -6,7 +6,7 @@ ghost use Rattle.interval_pruner.specs.Pruner.{past, short, interval_within, sta
 ghost use Rattle.interval_pruner.specs.Steps.{kept_off};
 ghost use Rattle.interval_pruner.specs.Promise.{ShrunkTo};
 
-use crate::{Bound, Zeros};
+use crate::{Bound, Target, Tries, Zeros};
 
 // The interval from `first` to `last` that remembers what `bound` does, if it is not empty.
 #[tactic(auto, using(crate::proofs::Shrinking::within_some, crate::proofs::Shrinking::within_none))]
@@ -37,31 +37,26 @@ fn between_zeros(zeros: Zeros, bound: Bound) -> Option<Bound>
 
 // Where a remembered cut's error says that the cuts near it are no better: its place, and how far from it a better one stands at least.
 #[tactic(auto, using(crate::proofs::Shrinking::kept_under, crate::proofs::Shrinking::kept_over), unfolding(crate::specs::Steps::kept_off, crate::specs::Column::left_error, crate::specs::Column::right_error))]
-fn kept_off(
-    cuts: &[u16],
-    table: &[u32],
-    tried: Option<usize>,
-    gap: u32,
-    best: u32,
-) -> Option<(usize, usize)>
-    ensures value { result ≡ kept_off (recorded_column cuts.now table.now gap true) best tried }
+fn kept_off(tries: &Tries, target: Target, tried: Option<usize>) -> Option<(usize, usize)>
+    ensures value { result ≡ kept_off (recorded_column tries.now.cuts.now tries.now.table.now target.gap true) target.best tried }
     ensures fits { IfSome result (λ r. (r.0 < 2 ^ 16) × (r.1 ≤ 3 * 2 ^ 32)) }
 {
     let cut = tried?;
-    let over = crate::sum_at(table, cut, gap).checked_sub(best as usize)?;
-    Some((cuts::place_at(cuts, cut), over + 1))
+    let over = crate::sum_at(tries.table, cut, target.gap).checked_sub(target.best as usize)?;
+    Some((cuts::place_at(tries.cuts, cut), over + 1))
 }
 
 // The cuts near the one remembered on the left are too near to be better.
 #[tactic(auto, using(crate::proofs::Shrinking::start_kept, crate::proofs::Shrinking::start_moved))]
-fn away_from_left(cuts: &[u16], table: &[u32], bound: Bound, gap: u32, best: u32) -> Option<Bound>
-    ensures { Ascending cuts.now →
-        result ≡ interval_within bound (start_after (recorded_column cuts.now table.now gap true) best bound.left bound.first) bound.last }
+fn away_from_left(tries: &Tries, bound: Bound, target: Target) -> Option<Bound>
+    ensures { Ascending tries.now.cuts.now →
+        result ≡ interval_within bound
+        (start_after (recorded_column tries.now.cuts.now tries.now.table.now target.gap true) target.best bound.left bound.first) bound.last }
 {
-    let Some((place, distance)) = kept_off(cuts, table, bound.left, gap, best) else {
+    let Some((place, distance)) = kept_off(tries, target, bound.left) else {
         return between(bound, bound.first, bound.last);
     };
-    let start = cuts::lower_bound(cuts, bound.first, bound.last, place + distance);
+    let start = cuts::lower_bound(tries.cuts, bound.first, bound.last, place + distance);
     between(bound, start, bound.last)
 }
 
@@ -80,32 +75,25 @@ fn up_to(cuts: &[u16], bound: Bound, x: usize) -> Option<Bound>
 
 // The cuts near the one remembered on the right are too near to be better.
 #[tactic(auto, using(crate::proofs::Shrinking::end_kept, crate::proofs::Shrinking::end_moved), unfolding(crate::specs::Pruner::end_above))]
-fn away_from_right(cuts: &[u16], table: &[u32], bound: Bound, gap: u32, best: u32) -> Option<Bound>
-    ensures { Ascending cuts.now →
-        result ≡ end_before (recorded_column cuts.now table.now gap true) best bound.right bound bound.first bound.last }
+fn away_from_right(tries: &Tries, bound: Bound, target: Target) -> Option<Bound>
+    ensures { Ascending tries.now.cuts.now →
+        result ≡ end_before (recorded_column tries.now.cuts.now tries.now.table.now target.gap true) target.best bound.right bound
+        bound.first bound.last }
 {
-    let Some((place, distance)) = kept_off(cuts, table, bound.right, gap, best) else {
+    let Some((place, distance)) = kept_off(tries, target, bound.right) else {
         return between(bound, bound.first, bound.last);
     };
-    up_to(cuts, bound, place.saturating_sub(distance))
+    up_to(tries.cuts, bound, place.saturating_sub(distance))
 }
 
 // What is left of an interval after what has been tried beside it.
-pub fn interval_shrinking(
-    cuts: &[u16],
-    table: &[u32],
-    zeros: Zeros,
-    bound: Bound,
-    gap: u32,
-    best: u32,
-    small: bool,
-) -> Option<Bound>
-    ensures { ShrunkTo cuts.now table.now zeros bound gap best small result }
+pub fn interval_shrinking(tries: &Tries, bound: Bound, target: Target) -> Option<Bound>
+    ensures { ShrunkTo tries.now.cuts.now tries.now.table.now tries.now.zeros bound target.gap target.best target.small result }
 {
-    if !small {
+    if !target.small {
         return between(bound, bound.first, bound.last);
     }
-    let open = between_zeros(zeros, bound)?;
-    let rest = away_from_left(cuts, table, open, gap, best)?;
-    away_from_right(cuts, table, rest, gap, best)
+    let open = between_zeros(tries.zeros, bound)?;
+    let rest = away_from_left(tries, open, target)?;
+    away_from_right(tries, rest, target)
 }

@@ -26,6 +26,30 @@ pub struct Zeros {
     pub right: Option<usize>,
 }
 
+// What was tried in one column: its cuts' places, the table of the errors of those tried, and the zero marks.
+#[derive(Clone, Copy)]
+pub struct Tries<'a> {
+    pub cuts: &'a [u16],
+    pub table: &'a [u32],
+    pub zeros: Zeros,
+}
+
+// What a better rule must beat, by how far cuts may differ (`gap`), and whether support is at most 1 (`small`).
+#[derive(Clone, Copy)]
+pub struct Target {
+    pub gap: u32,
+    pub best: u32,
+    pub small: bool,
+}
+
+// What step 5 takes from the terms, and how far a try's error is above the best.
+#[derive(Clone, Copy)]
+pub struct Reach {
+    pub gap: u32,
+    pub small: bool,
+    pub excess: u32,
+}
+
 // Where the part above a tried cut begins, and where the part below it ends.
 #[derive(Clone, Copy)]
 pub struct Parts {

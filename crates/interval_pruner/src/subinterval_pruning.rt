@@ -4,7 +4,7 @@ ghost use Rattle.interval_pruner.specs.Column.{recorded};
 ghost use Rattle.interval_pruner.specs.Pruner.{held_error};
 ghost use Rattle.interval_pruner.specs.Promise.{DroppedOf};
 
-use crate::Bound;
+use crate::{Bound, Target};
 
 // The left error of a remembered cut and its right one; 0 where none is remembered.
 #[tactic(auto, unfolding(crate::specs::Pruner::held_error))]
@@ -21,12 +21,12 @@ fn held(table: &[u32], tried: Option<usize>) -> (usize, usize)
 
 // Whether the interval can be dropped for what is known of the cuts beside it. It holds whatever the cuts' places are.
 #[tactic(auto, unfolding(crate::specs::Pruner::hopeless, crate::specs::Column::left_error, crate::specs::Column::right_error))]
-pub fn subinterval_pruning(table: &[u32], bound: Bound, gap: u32, best: u32, small: bool) -> bool
-    ensures { DroppedOf table.now bound gap best small result }
+pub fn subinterval_pruning(table: &[u32], bound: Bound, target: Target) -> bool
+    ensures { DroppedOf table.now bound target.gap target.best target.small result }
 {
-    if small {
-        let sum = held(table, bound.left).0 + held(table, bound.right).1 + gap as usize;
-        return best as usize <= sum;
+    if target.small {
+        let sum = held(table, bound.left).0 + held(table, bound.right).1 + target.gap as usize;
+        return target.best as usize <= sum;
     }
     false
 }

@@ -14,5 +14,5 @@ returns c =
     let a = c.args in
     λ up.
     c.up_to.ensures up ∙
-    ap (λ (x : ℕ). end_above (recorded_column a.cuts.now [] 0 true) a.bound x a.bound.first a.bound.last) c.saturating_sub.ensures ∙
+    ap (λ (x : ℕ). end_above (recorded_column a.tries.now.cuts.now [] 0 true) a.bound x a.bound.first a.bound.last) c.saturating_sub.ensures ∙
     end_moved _ _ _ _ _ _ _ _ (sym c.kept_off.ensures.value ∙ c.in-Some.is)

@@ -6,6 +6,7 @@ use mathlib.Core.List.{List}
 use Rattle.interval_pruner.specs.declared.Zeros.{Zeros}
 use Rattle.interval_pruner.specs.declared.Bound.{Bound}
 use Rattle.std.specs.Prelude.{Option, Some, None}
+use Rattle.std.proofs.lemmas.Bool.{not-true, not-false}
 use Rattle.interval_pruner.specs.Column.{Column, recorded_column}
 use Rattle.interval_pruner.specs.Pruner.{past, short, interval_within, shrunk_of}
 use Rattle.interval_pruner.proofs.Shrinking.{next, left_step, right_step, both_steps, in_steps, not_small}
@@ -37,21 +38,21 @@ module _ (places table : List ℕ) (gap : ℕ) (small : Bool) (z : Zeros) (b : �
       at_last : (k : Bound) → w ≡ Some k → right_step col b k ≡ left
       at_last k d = sym (started ∙ ap (λ (v : Option Bound). next v (right_step col b)) d)
 
-pub returns-then-not-small : goal.returns-then-not-small
-returns-then-not-small c = λ up. c.between.ensures ∙ sym (not_small _ _ _ _ c.if-not-small.true)
+pub returns-then-not-target : goal.returns-then-not-target
+returns-then-not-target c = λ up. c.between.ensures ∙ sym (not_small _ _ _ _ (not-true _ c.if-not-target.true))
 
 pub returns-in_err-open : goal.returns-in_err-open
 returns-in_err-open c =
-    λ up. c.from_residual.ensures ∙ at_first _ _ _ _ _ _ _ c.if-not-small.false _ c.between_zeros.ensures c.in_err-open.was
+    λ up. c.from_residual.ensures ∙ at_first _ _ _ _ _ _ _ (not-false _ c.if-not-target.false) _ c.between_zeros.ensures c.in_err-open.was
 
 pub returns-in_err-rest : goal.returns-in_err-rest
 returns-in_err-rest c =
     λ up.
     c.from_residual-in_err-rest.ensures ∙
-    at_second _ _ _ _ _ _ _ c.if-not-small.false _ c.between_zeros.ensures _ c.in_ok-open.was _ (c.away_from_left.ensures up) c.in_err-rest.was
+    at_second _ _ _ _ _ _ _ (not-false _ c.if-not-target.false) _ c.between_zeros.ensures _ c.in_ok-open.was _ (c.away_from_left.ensures up) c.in_err-rest.was
 
 pub returns : goal.returns
 returns c =
     λ up.
     c.away_from_right.ensures up ∙
-    at_last _ _ _ _ _ _ _ c.if-not-small.false _ c.between_zeros.ensures _ c.in_ok-open.was _ (c.away_from_left.ensures up) _ c.in_ok-rest.was
+    at_last _ _ _ _ _ _ _ (not-false _ c.if-not-target.false) _ c.between_zeros.ensures _ c.in_ok-open.was _ (c.away_from_left.ensures up) _ c.in_ok-rest.was
