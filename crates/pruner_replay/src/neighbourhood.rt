@@ -3,7 +3,7 @@ use crate::code;
 use crate::code::{NONE, number_of};
 use crate::tally::Tally;
 use interval_pruner::neighbourhood_pruning::neighbourhood_pruning;
-use interval_pruner::{Bound, Zeros};
+use interval_pruner::{Bound, Reach, Zeros};
 
 const CUTS: u32 = 8;
 // Gaps 0 to 4.
@@ -27,13 +27,15 @@ fn answer(cuts: &[u16], bound: Bound, cut: usize, term: u32) -> usize {
         left: bound.left,
         right: bound.right,
     };
-    let gap = term / CUTS % GAPS;
-    let excess = term / CUTS / GAPS % DIFFERENCES;
-    let small = term < SMALL_TERMS;
-    let found = neighbourhood_pruning(cuts, zeros, gap, excess, bound.first, cut, small);
+    let reach = Reach {
+        gap: term / CUTS % GAPS,
+        small: term < SMALL_TERMS,
+        excess: term / CUTS / GAPS % DIFFERENCES,
+    };
+    let found = neighbourhood_pruning(cuts, zeros, reach, bound.first, cut);
     let start = start_of(found.upper, bound.last);
     let mut table = [0u32; 16];
-    let after = interval_pruner::add_result(&mut table, zeros, cut, gap, excess);
+    let after = interval_pruner::add_result(&mut table, zeros, cut, reach.gap, reach.excess);
     start | (found.lower << 8) | (number_of(after.left) << 16) | (number_of(after.right) << 24)
 }
 

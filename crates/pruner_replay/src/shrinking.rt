@@ -4,7 +4,7 @@ use crate::code::{MARKINGS, number_of};
 use crate::tally::Tally;
 use interval_pruner::interval_shrinking::interval_shrinking;
 use interval_pruner::subinterval_pruning::subinterval_pruning;
-use interval_pruner::{Bound, Zeros, add_result};
+use interval_pruner::{Bound, Target, Tries, Zeros, add_result};
 
 // Gaps 0 to 4, and bests too.
 const LEVELS: u32 = 5;
@@ -25,38 +25,26 @@ const KEPT: usize = 1;
 
 const HOPELESS: usize = 2;
 
-// An interval of a list, and what was tried: the errors, and the marks.
-#[derive(Clone, Copy)]
-struct Tries<'a> {
-    cuts: &'a [u16],
-    table: &'a [u32],
-    zeros: Zeros,
-    bound: Bound,
+fn answer(tries: &Tries, bound: Bound, term: u32) -> usize {
+    let target = Target {
+        gap: term % LEVELS,
+        best: term / LEVELS % LEVELS,
+        small: term < SMALL_TERMS,
+    };
+    let shrunk = match interval_shrinking(tries, bound, target) {
+        None => 0,
+        Some(left) => KEPT | (left.first << 8) | (left.last << 16),
+    };
+    if subinterval_pruning(tries.table, bound, target) {
+        shrunk | HOPELESS
+    } else {
+        shrunk
+    }
 }
 
-impl Tries<'_> {
-    fn answer(&self, term: u32) -> usize {
-        let gap = term % LEVELS;
-        let best = term / LEVELS % LEVELS;
-        let small = term < SMALL_TERMS;
-        let after = interval_shrinking(
-            self.cuts, self.table, self.zeros, self.bound, gap, best, small,
-        );
-        let shrunk = match after {
-            None => 0,
-            Some(bound) => KEPT | (bound.first << 8) | (bound.last << 16),
-        };
-        if subinterval_pruning(self.table, self.bound, gap, best, small) {
-            shrunk | HOPELESS
-        } else {
-            shrunk
-        }
-    }
-
-    fn tell_every_term(&self, tally: &mut Tally) {
-        for term in 0..TERMS {
-            tally.tell(self.answer(term));
-        }
+fn tell_every_term(tries: &Tries, bound: Bound, tally: &mut Tally) {
+    for term in 0..TERMS {
+        tally.tell(answer(tries, bound, term));
     }
 }
 
@@ -94,14 +82,13 @@ fn tell_with_errors(
         cuts,
         table: &table,
         zeros,
-        bound,
     };
-    tries.tell_every_term(tally);
-    Tries {
+    tell_every_term(&tries, bound, tally);
+    let unmarked = Tries {
         zeros: Zeros::default(),
         ..tries
-    }
-    .tell_every_term(tally);
+    };
+    tell_every_term(&unmarked, bound, tally);
 }
 
 fn tell_every_error(cuts: &[u16], bound: Bound, tally: &mut Tally) {
@@ -127,9 +114,8 @@ fn tell_every_marking(cuts: &[u16], bound: Bound, tally: &mut Tally) {
                 cuts,
                 table: &[0; 16],
                 zeros,
-                bound,
             };
-            tries.tell_every_term(tally);
+            tell_every_term(&tries, bound, tally);
         }
     }
 }
