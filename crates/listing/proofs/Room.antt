@@ -6,9 +6,10 @@ use native.Mathlib.Omega.{arith}
 use mathlib.Core.Bool.{Bool, true, false}
 use mathlib.Core.List.{List, ◌++◌}
 use lib.ListN.{length, drop, length-append}
-use lib.Seq.{sets-eq}
+use lib.Seq.{sets-eq, length-take-le}
 use lib.Dec.{leb, le→leb, not_T, leb→le}
 use lib.Ieee.{Float}
+use Rattle.std.specs.Counts.{IsPrefixLen}
 use Rattle.basics.specs.Choice.{pick}
 use Rattle.basics.proofs.Choice.{pick_true, pick_false}
 use Rattle.tree.specs.declared.Question.{Question}
@@ -99,9 +100,11 @@ out_kept answer out short =
 
 -- ---- what is written lies within the memory
 
-pub written_within : (answer : Answer) (out out' : List ℕ) (bytes : ℕ) → ListedIn answer out bytes out' → bytes ≤ length out'
+pub written_within : (answer : Answer) (out out' : List ℕ) (bytes : ℕ) → ListedIn answer out bytes out' → IsPrefixLen bytes out'
 unfolding written_of out_of
-written_within answer out out' bytes after = omega (arith, after.says, ap length after.holds, go (leb longest (length out)))
+written_within answer out out' bytes after =
+    let most : bytes ≤ length out' = omega (arith, after.says, ap length after.holds, go (leb longest (length out))) in
+    (most, sym (length-take-le bytes out' most))
   where
     text : List ℕ
     text = listing_of answer

@@ -1,15 +1,12 @@
 -- What is refused is what the reader refuses; every other answer carries the certificate. Assumes nothing.
 use mathlib.Core.Path.{◌≡◌, refl, sym, ap, ap₂, ◌∙◌}
 use Prim.Native.Nat.{ℕ, ◌≤◌}
-use native.Mathlib.Omega.{arith}
 use mathlib.Core.Option.{Option, none, some}
-use mathlib.Core.Bool.{Bool, true, false}
 use mathlib.Core.List.{List, ◌++◌}
-use lib.ListN.{length, take, drop, length-append}
+use lib.ListN.{length, take, drop}
 use lib.Seq.{take-append_seam}
 use lib.Dec.{leb, le→leb}
 use Rattle.std.specs.Prelude.{Result, Ok, Err}
-use Rattle.basics.specs.Choice.{pick}
 use Rattle.basics.proofs.Choice.{pick_true}
 use Rattle.sheet.specs.Sheet.{Sheet}
 use Rattle.sheet.specs.declared.Terms.{Terms}
@@ -21,6 +18,7 @@ use Rattle.tree.specs.declared.Answer.TheVariants.{TurnedBack}
 use Rattle.tree.specs.Answer.{turned_back}
 use Rattle.depth2.specs.Search.{answer_holding, answer_after, search_of, searched, Progress}
 use Rattle.listing.specs.Listing.{listing_of, longest, written_of, out_of}
+use Rattle.listing.proofs.Room as within
 use Rattle.certificate.proofs.Sentences.{certified}
 use Rattle.sheet_bytes.specs.declared.Head.{Head}
 use Rattle.sheet_bytes.specs.Read.{read_of}
@@ -88,19 +86,8 @@ every_signed bytes h e =
 
 -- ---- the outcome
 
-within : (answer : Answer) (out : List ℕ) → written_of answer out ≤ length (out_of answer out)
-unfolding written_of out_of
-within answer out = go (leb longest (length out))
-  where
-    text : List ℕ
-    text = listing_of answer
-
-    go : (b : Bool) → pick b (length text) 0 ≤ length (pick b (text ++ drop (length text) out) out)
-    go true = unfold pick in omega (arith, length-append text (drop (length text) out))
-    go false = unfold pick in omega arith
-
 pub written_within : WrittenWithin
-written_within bytes out count after o = omega (arith, o.says, ap length o.holds, within (run_of bytes) out)
+written_within bytes out count after o = (within.written_within (run_of bytes) out after count o).0
 
 said : (answer : Answer) (out : List ℕ) → longest ≤ length out → take (written_of answer out) (out_of answer out) ≡ listing_of answer
 unfolding written_of out_of
