@@ -47,30 +47,38 @@ pub(crate) struct Cut {
 }
 
 impl Cut {
-    fn total(self) -> u32
-        requires { total_by self ≤ most_rows }
-        ensures { result ≡ total_by self }
-    {
-        self.peaks.before.count + self.peaks.after.count
-    }
-
-    fn is_taken(self, least: u32, score: u32) -> bool
-        requires { total_by self ≤ most_rows }
-        ensures { result ≡ taken_by self least score }
-    {
-        least <= self.counted && least <= self.rest && score < self.total()
-    }
-
     fn is_closing(self, skip: u32) -> bool
         ensures { result ≡ closed_by self skip }
     {
         self.peaks.after.count == self.rest || self.rest <= skip
     }
+}
+
+// A cut of a side's rows: no label has more rows than its part, so that a leaf's error is a number, and the total fits.
+#[derive(Clone, Copy)]
+pub(crate) struct CutOfRows {
+    pub cut: Cut,
+    ghost some_before: { cut.peaks.before.count ≤ cut.counted },
+    ghost some_after: { cut.peaks.after.count ≤ cut.rest },
+    ghost few: { total_by cut ≤ most_rows },
+}
+
+impl CutOfRows {
+    fn total(self) -> u32
+        ensures { result ≡ total_by self.cut }
+    {
+        self.cut.peaks.before.count + self.cut.peaks.after.count
+    }
+
+    fn is_taken(self, least: u32, score: u32) -> bool
+        ensures { result ≡ taken_by self.cut least score }
+    {
+        least <= self.cut.counted && least <= self.cut.rest && score < self.total()
+    }
 
     // By numbers alone; `skip` has fallen already.
     pub(crate) fn judge(self, least: u32, score: u32, skip: u32) -> CutVerdict
-        requires { total_by self ≤ most_rows }
-        ensures { result ≡ verdict_of self least score skip }
+        ensures { result ≡ verdict_of self.cut least score skip }
     {
         let total = self.total();
         let taken = self.is_taken(least, score);
@@ -83,21 +91,18 @@ impl Cut {
             taken,
             total,
             skip: next,
-            closed: self.is_closing(next),
+            closed: self.cut.is_closing(next),
         }
     }
 
     // Its split.
     #[tactic(auto, unfolding(crate::specs::Scored::split_by))]
     pub(crate) fn split(self, column: usize, previous: f64, value: f64) -> Best
-        requires some_before { self.peaks.before.count ≤ self.counted }
-        requires some_after { self.peaks.after.count ≤ self.rest }
-        requires few { total_by self ≤ most_rows }
-        ensures { result ≡ split_by self column previous value }
+        ensures { result ≡ split_by self.cut column previous value }
     {
         let threshold = threshold::threshold_between(previous, value);
-        let left = self.peaks.before.leaf(self.counted);
-        let right = self.peaks.after.leaf(self.rest);
+        let left = self.cut.peaks.before.leaf(self.cut.counted);
+        let right = self.cut.peaks.after.leaf(self.cut.rest);
         Best {
             score: self.total(),
             question: Question { column, threshold },

@@ -11,7 +11,7 @@ ghost use Rattle.side_scan.specs.Scored.{fallen};
 ghost use Rattle.side_scan.specs.Step.{Cuttable, Ready, Steppable, leaf_scan, SideSized};
 
 use crate::best_counts::{commonest_label, find_peaks};
-use crate::cut_score::{Best, Cut, is_quiet};
+use crate::cut_score::{Best, Cut, CutOfRows, is_quiet};
 use sheet::MOST_LABELS;
 use tree::{Leaf, Question, Side};
 
@@ -137,10 +137,12 @@ impl SideScan {
         // the counts are read beside the record, so that its numbers can stay in registers
         let own = self.own;
         let seen = self.seen;
-        let cut = Cut {
-            peaks: find_peaks(&own, &seen, self.labels),
-            counted: self.counted,
-            rest: self.size - self.counted,
+        let cut = CutOfRows {
+            cut: Cut {
+                peaks: find_peaks(&own, &seen, self.labels),
+                counted: self.counted,
+                rest: self.size - self.counted,
+            },
         };
         let verdict = cut.judge(self.least, self.best.score, self.skip);
         self.skip = verdict.skip;

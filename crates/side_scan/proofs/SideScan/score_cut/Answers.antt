@@ -15,17 +15,11 @@ use Rattle.side_scan.proofs.SideScan.score_cut.Goals as goal
 cut_is : (t : SideScan) (p : Peaks) → p ≡ peaks_at t → ◌≡◌ {A = Cut} (record { peaks = p; counted = t.counted; rest = rows_left t }) (cut_at t)
 cut_is t p e = ap (λ (p : Peaks). record { peaks = p; counted = t.counted; rest = rows_left t }) e
 
-pub judge-verdict-requires : goal.judge-verdict-requires
-judge-verdict-requires c = few _ c.requires c.find_peaks.result c.find_peaks.ensures
-
-pub split-self-requires-clause-some_before : goal.split-self-requires-clause-some_before
-split-self-requires-clause-some_before c = before_in _ c.requires c.find_peaks.result c.find_peaks.ensures
-
-pub split-self-requires-clause-some_after : goal.split-self-requires-clause-some_after
-split-self-requires-clause-some_after c = after_in _ c.requires c.find_peaks.result c.find_peaks.ensures
-
-pub split-self-requires-clause-few : goal.split-self-requires-clause-few
-split-self-requires-clause-few c = few _ c.requires c.find_peaks.result c.find_peaks.ensures
+pub invariant_of-cut : goal.invariant_of-cut
+invariant_of-cut c =
+    let p = c.find_peaks.result in
+    let e = c.find_peaks.ensures in
+    record { some_before = before_in _ c.requires p e; some_after = after_in _ c.requires p e; few = few _ c.requires p e }
 
 pub returns-then-verdict : goal.returns-then-verdict
 unfolding pick of_bits

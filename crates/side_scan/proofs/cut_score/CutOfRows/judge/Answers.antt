@@ -1,9 +1,9 @@
--- `side_scan::cut_score::Cut::judge` meets its contract: at either outcome of the test.
+-- `side_scan::cut_score::CutOfRows::judge` meets its contract: at either outcome of the test.
 use Rattle.std.proofs.Common.{sym, ◌∙◌}
 use Rattle.basics.specs.Choice.{pick}
 use Rattle.side_scan.specs.Scored.{verdict_of}
-use Rattle.side_scan.proofs.cut_score.Cut.judge.Goals as goal
-use Rattle.side_scan.proofs.cut_score.Cut.judge.Goals.{then-taken, else-taken}
+use Rattle.side_scan.proofs.cut_score.CutOfRows.judge.Goals as goal
+use Rattle.side_scan.proofs.cut_score.CutOfRows.judge.Goals.{then-taken, else-taken}
 
 pub returns : goal.returns
 unfolding verdict_of pick
