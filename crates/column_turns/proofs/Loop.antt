@@ -15,32 +15,31 @@ use Rattle.cuts.specs.Feasible.{feasible_of}
 use Rattle.std.specs.Prelude.{None}
 use Rattle.interval_pruner.specs.Column.{Column}
 use Rattle.interval_queue.specs.declared.Queue.{Queue}
-use Rattle.interval_queue.specs.Ring.{contents}
+use Rattle.interval_queue.specs.Ring.{slots_of, contents}
 use Rattle.column_search.specs.Search.{zeros_of, start, column_run}
 use Rattle.column_search.specs.Laws.{Feasible}
 use Rattle.column_search.specs.Loop.{Looping}
 use Rattle.column_search.proofs.Count.{loops}
 use Rattle.column_turns.specs.declared.interval_steps.Standing.{Standing}
 use Rattle.column_turns.specs.declared.Course.{Course}
-use Rattle.column_turns.specs.Lent.{ring_of, Enough, RestKept}
+use Rattle.column_turns.specs.declared.Words.{Words}
+use Rattle.column_turns.specs.Ready.{SameWords}
 use Rattle.column_turns.specs.Try.{searched_column}
 use Rattle.column_turns.specs.Parts.{Pushing}
 use Rattle.column_turns.specs.Promise.{Whole, held_after, standing_after_run, feasible_at, first_at, last_at, standing_after_column}
 use Rattle.column_turns.specs.Course.{Stands, Begun, Opened}
-use Rattle.column_turns.proofs.Lent.{kept_enough}
+use Rattle.column_turns.proofs.Lent.{enough_after}
 use Rattle.column_turns.proofs.Places.{places_ascend}
-use Rattle.column_turns.proofs.Queueing.{ring_slots}
 use Rattle.column_turns.proofs.Turns.{feasible_cuts}
 
 -- ---- the first interval
 
-pub first_pushing : (rows first last : ℕ) (xs : List ℕ) → Enough rows xs → first ≤ last → last < most_rows
-    → Pushing rows xs (record { head = 0; waiting = 0 }) (record { first = first; last = last; left = None; right = None })
-first_pushing rows first last xs enough h l =
+pub first_pushing : (first last : ℕ) (words : Words) → 1 ≤ slots_of words.ring.now → first ≤ last → last < most_rows
+    → Pushing words (record { head = 0; waiting = 0 }) (record { first = first; last = last; left = None; right = None })
+first_pushing first last words some h l =
     record {
-      enough = enough;
-      sane = record { head_in = omega (arith, ring_slots rows xs enough, enough.some); few = omega arith };
-      room = omega (arith, enough.some);
+      sane = record { head_in = omega arith; few = omega arith };
+      room = omega arith;
       small = λ _. record { first = omega arith; last = omega arith; left = tt; right = tt };
     }
 
@@ -50,7 +49,7 @@ none_waits words q h = let z : q.waiting ≡ 0 = omega arith in ap (table _) z
 
 -- ---- the loop
 
-module _ (s : Sheet) (t : Terms) (c : ℕ) (p : Standing) (xs : List ℕ) (course : Course) (begun : Begun s t c xs) where
+module _ (s : Sheet) (t : Terms) (c : ℕ) (p : Standing) (xs : Words) (course : Course) (begun : Begun s t c xs) where
   abbrev col : Column
   col = searched_column s t c
 
@@ -61,7 +60,7 @@ module _ (s : Sheet) (t : Terms) (c : ℕ) (p : Standing) (xs : List ℕ) (cours
   looping = loops col t.bound (first_at s t c) (last_at s t c) p.error fair
 
   -- the loop begins with the run's first state
-  pub opened_stands : Opened s.rows xs (first_at s t c) (last_at s t c) p course → Stands s t c p xs course
+  pub opened_stands : Opened xs (first_at s t c) (last_at s t c) p course → Stands s t c p xs course
   unfolding standing_after_run held_after zeros_of
   opened_stands o =
       let n : p.tried ≡ p.tried + 0 = omega arith in
@@ -84,11 +83,11 @@ module _ (s : Sheet) (t : Terms) (c : ℕ) (p : Standing) (xs : List ℕ) (cours
   stands_done stands h =
       stands.matches.standing
       ∙ ap (standing_after_run s t.support c p)
-      (looping.done stands.state stands.running (sym stands.matches.queue ∙ none_waits (ring_of s.rows xs) course.queue h))
+      (looping.done stands.state stands.running (sym stands.matches.queue ∙ none_waits xs.ring.now course.queue h))
 
-pub begun_after : (s : Sheet) (t : Terms) (c : ℕ) (xs ys : List ℕ) → Begun s t c xs → RestKept s.rows xs ys → Begun s t c ys
+pub begun_after : (s : Sheet) (t : Terms) (c : ℕ) (xs ys : Words) → Begun s t c xs → SameWords xs ys → Begun s t c ys
 begun_after s t c xs ys begun k =
-    record { whole = begun.whole; here = begun.here; some = begun.some; enough = kept_enough s.rows xs ys begun.enough k }
+    record { whole = begun.whole; here = begun.here; some = begun.some; enough = enough_after begun.enough k }
 
 -- ---- whether there is a feasible cut
 

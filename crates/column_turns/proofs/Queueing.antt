@@ -20,15 +20,15 @@ use Rattle.interval_queue.specs.Laws.{Sane, SmallCut}
 use Rattle.interval_queue.proofs.Waiting.{push_appends}
 use Rattle.column_search.specs.Search.{part, upper_part, lower_part}
 use Rattle.column_search.proofs.Steps.{sides}
-use Rattle.column_turns.specs.Lent.{table_of, ring_of, Enough}
-use Rattle.column_turns.specs.Ready.{Became}
+use Rattle.column_turns.specs.declared.Words.{Words}
+use Rattle.column_turns.specs.Ready.{SameWords, EnoughWords}
 use Rattle.column_turns.specs.declared.Parting.{Parting}
 use Rattle.column_turns.specs.Parts.{Pushing, Queued, PartsWaiting, parts_queued, parted}
-use Rattle.column_turns.proofs.Lent.{ring_length, kept_enough, kept_then, kept_same}
+use Rattle.column_turns.proofs.Lent.{same_then, same_words}
 
 -- as many slots as rows
-pub ring_slots : (rows : ℕ) (xs : List ℕ) → Enough rows xs → slots_of (ring_of rows xs) ≡ rows
-ring_slots rows xs enough = ap (λ (n : ℕ). n / 4) (ring_length rows xs enough) ∙ mul-div_cancel_left rows (omega arith)
+pub ring_slots : (rows : ℕ) (words : Words) → EnoughWords rows words → slots_of words.ring.now ≡ rows
+ring_slots rows words enough = ap (λ (n : ℕ). n / 4) enough.ring_size ∙ mul-div_cancel_left rows (omega arith)
 
 pub part_full : (i : Bound) → i.first ≤ i.last → part i ≡ i ∷ []
 unfolding part
@@ -42,44 +42,44 @@ pushed_waiting : (words : List ℕ) (q : Queue) → (pushed words q).waiting ≤
 unfolding pushed
 pushed_waiting words q = by_test (λ (z : Queue). z.waiting ≤ q.waiting + 1) (full words q) (λ _. omega arith) (λ _. omega arith)
 
-module _ (rows : ℕ) (xs : List ℕ) (q : Queue) (i : Bound) (pushing : Pushing rows xs q i) where
-  pub part_pushed : (ys : List ℕ) (r : Queue) → i.first ≤ i.last → r ≡ pushed (ring_of rows xs) q
-      → Became rows xs ys (table_of rows xs) (pushed_words (ring_of rows xs) q i) → Queued rows xs ys q r (part i)
-  part_pushed ys r h e b =
-      let law = push_appends (ring_of rows xs) q i pushing.sane (omega (arith, pushing.room, ring_slots rows xs pushing.enough)) (pushing.small h) in
-      let sane : Sane (ring_of rows ys) r =
-      subst (λ (z : Queue). Sane (ring_of rows ys) z) (sym e) (subst (λ (w : List ℕ). Sane w (pushed (ring_of rows xs) q)) (sym b.ring_is) law.1) in
+module _ (xs : Words) (q : Queue) (i : Bound) (pushing : Pushing xs q i) where
+  pub part_pushed : (ys : Words) (r : Queue) → i.first ≤ i.last → r ≡ pushed xs.ring.now q → ys.ring.now ≡ pushed_words xs.ring.now q i
+      → ys.table.now ≡ xs.table.now → SameWords xs ys → Queued xs ys q r (part i)
+  part_pushed ys r h e ring_is table_is kept =
+      let law = push_appends xs.ring.now q i pushing.sane pushing.room (pushing.small h) in
+      let sane : Sane ys.ring.now r =
+      subst (λ (z : Queue). Sane ys.ring.now z) (sym e) (subst (λ (w : List ℕ). Sane w (pushed xs.ring.now q)) (sym ring_is) law.1) in
       record {
-        contents_are = (λ t. contents (b.ring_is t) (e t)) ∙ law.0 ∙ ap (λ (l : List Bound). contents (ring_of rows xs) q ++ l) (sym (part_full i h));
+        contents_are = (λ t. contents (ring_is t) (e t)) ∙ law.0 ∙ ap (λ (l : List Bound). contents xs.ring.now q ++ l) (sym (part_full i h));
         sane = sane;
-        waiting = omega (arith, ap (λ (z : Queue). z.waiting) e, pushed_waiting (ring_of rows xs) q, ap length (part_full i h));
-        table_is = b.table_is;
-        kept = b.kept;
+        waiting = omega (arith, ap (λ (z : Queue). z.waiting) e, pushed_waiting xs.ring.now q, ap length (part_full i h));
+        table_is = table_is;
+        kept = kept;
       }
 
 -- nothing was queued, and nothing written
-pub none_queued : (rows : ℕ) (xs : List ℕ) (q : Queue) (more : List Bound) → Sane (ring_of rows xs) q → more ≡ []
-    → Queued rows xs xs q q more
-none_queued rows xs q more sane e =
+pub none_queued : (xs : Words) (q : Queue) (more : List Bound) → Sane xs.ring.now q → more ≡ []
+    → Queued xs xs q q more
+none_queued xs q more sane e =
     record {
-      contents_are = sym (append-nil (contents (ring_of rows xs) q)) ∙ ap (λ (l : List Bound). contents (ring_of rows xs) q ++ l) (sym e);
+      contents_are = sym (append-nil (contents xs.ring.now q)) ∙ ap (λ (l : List Bound). contents xs.ring.now q ++ l) (sym e);
       sane = sane;
       waiting = omega arith;
       table_is = refl;
-      kept = kept_same rows xs;
+      kept = same_words xs;
     }
 
 -- one after the other
-pub both_queued : (rows : ℕ) (xs ys zs : List ℕ) (q r u : Queue) (l m : List Bound) → Queued rows xs ys q r l → Queued rows ys zs r u m
-    → Queued rows xs zs q u (l ++ m)
-both_queued rows xs ys zs q r u l m a b =
+pub both_queued : (xs ys zs : Words) (q r u : Queue) (l m : List Bound) → Queued xs ys q r l → Queued ys zs r u m
+    → Queued xs zs q u (l ++ m)
+both_queued xs ys zs q r u l m a b =
     record {
       contents_are =
-          b.contents_are ∙ ap (λ (k : List Bound). k ++ m) a.contents_are ∙ append_assoc (contents (ring_of rows xs) q) l m;
+          b.contents_are ∙ ap (λ (k : List Bound). k ++ m) a.contents_are ∙ append_assoc (contents xs.ring.now q) l m;
       sane = b.sane;
       waiting = omega (arith, a.waiting, b.waiting, length-append l m);
       table_is = b.table_is ∙ a.table_is;
-      kept = kept_then rows xs ys zs a.kept b.kept;
+      kept = same_then a.kept b.kept;
     }
 
 -- ---- the two parts
@@ -92,14 +92,13 @@ part_few : (i : Bound) → length (part i) ≤ 1
 unfolding part
 part_few i = by_test (λ (l : List Bound). length l ≤ 1) (leb i.first i.last) (λ _. omega arith) (λ _. omega arith)
 
-module _ (rows : ℕ) (places : List ℕ) (p : Parting) (queue : Queue) (xs : List ℕ) (parting : PartsWaiting rows places p queue xs) where
+module _ (places : List ℕ) (p : Parting) (queue : Queue) (xs : Words) (parting : PartsWaiting places p queue xs) where
   abbrev parts : Parts
   parts = parts_of (recorded_column places [] p.reach.gap p.reach.small) p.zeros p.reach.excess p.cut p.bound.first
 
-  pub upper_pushing : Pushing rows xs queue (upper_part p.bound p.cut parts.upper)
+  pub upper_pushing : Pushing xs queue (upper_part p.bound p.cut parts.upper)
   upper_pushing =
       record {
-        enough = parting.enough;
         sane = parting.sane;
         room = omega (arith, parting.room);
         small =
@@ -111,13 +110,12 @@ module _ (rows : ℕ) (places : List ℕ) (p : Parting) (queue : Queue) (xs : Li
             };
       }
 
-  pub lower_pushing : (ys : List ℕ) (r : Queue) → Queued rows xs ys queue r (part (upper_part p.bound p.cut parts.upper))
-      → Pushing rows ys r (lower_part p.bound p.cut parts.lower)
+  pub lower_pushing : (ys : Words) (r : Queue) → Queued xs ys queue r (part (upper_part p.bound p.cut parts.upper))
+      → Pushing ys r (lower_part p.bound p.cut parts.lower)
   lower_pushing ys r a =
       record {
-        enough = kept_enough rows xs ys parting.enough a.kept;
         sane = a.sane;
-        room = omega (arith, parting.room, a.waiting, part_few (upper_part p.bound p.cut parts.upper));
+        room = omega (arith, parting.room, a.waiting, part_few (upper_part p.bound p.cut parts.upper), ap (λ (n : ℕ). n / 4) a.kept.ring_size);
         small =
             λ h. record {
               first = omega (arith, parting.full, parting.till, parting.listed);

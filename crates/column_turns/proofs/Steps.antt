@@ -31,13 +31,13 @@ use Rattle.tree.specs.declared.Tree.{Tree}
 use Rattle.column_turns.specs.declared.interval_steps.Standing.{Standing}
 use Rattle.column_turns.specs.declared.Course.{Course}
 use Rattle.column_turns.specs.declared.Attempt.{Attempt}
-use Rattle.column_turns.specs.Lent.{table_of, ring_of, Enough}
+use Rattle.column_turns.specs.declared.Words.{Words}
 use Rattle.column_turns.specs.Try.{searched_column, tree_at, tried_tree}
+use Rattle.column_turns.specs.Ready.{EnoughWords}
 use Rattle.column_turns.specs.Steps.{improved_by, ends_column}
 use Rattle.column_turns.specs.Parts.{parts_queued}
 use Rattle.column_turns.specs.Promise.{held_after, standing_after_run}
 use Rattle.column_turns.specs.Course.{Attempted, Matches}
-use Rattle.column_turns.proofs.Lent.{table_length}
 
 -- ---- the table
 
@@ -78,16 +78,16 @@ parts_queued_lem c z b m i =
 
 -- ---- a try of an interval
 
-module _ (s : Sheet) (t : Terms) (c : ℕ) (p : Standing) (xs ys zs : List ℕ) (course : Course) (state : State) (i : Bound) (tried : Attempt)
-    (queue : Queue) (enough : Enough s.rows xs) (inside : middle i < s.rows) (matches : Matches s t c p xs course state)
+module _ (s : Sheet) (t : Terms) (c : ℕ) (p : Standing) (xs ys zs : Words) (course : Course) (state : State) (i : Bound) (tried : Attempt)
+    (queue : Queue) (enough : EnoughWords s.rows xs) (inside : middle i < s.rows) (matches : Matches s t c p xs course state)
     (attempted : Attempted s t.support c (middle i) course.zeros xs ys tried)
-    (table_is : table_of s.rows zs ≡ table_of s.rows ys)
-    (waiting : contents (ring_of s.rows zs) queue
+    (table_is : zs.table.now ≡ ys.table.now)
+    (waiting : contents zs.ring.now queue
     ≡ pick (ends_column tried.tree.error course.standing.error) []
-    (contents (ring_of s.rows ys) course.queue
+    (contents ys.ring.now course.queue
     ++ parts_queued (places_of s c) t.gap (leb t.support 1) tried.zeros
     (tried.tree.error - min (improved_by course.standing tried.tree).error t.bound) (middle i) i))
-    (sane : Sane (ring_of s.rows zs) queue) where
+    (sane : Sane zs.ring.now queue) where
   abbrev col : Column
   col = searched_column s t c
 
@@ -132,23 +132,23 @@ module _ (s : Sheet) (t : Terms) (c : ℕ) (p : Standing) (xs ys zs : List ℕ) 
   unfolding improved_by
   limit_is = λ k. min (min (error_is k) (current_is k)) t.bound
 
-  queue_next : contents (ring_of s.rows zs) queue ≡ (try_cut col t.bound state state.queue i).queue
+  queue_next : contents zs.ring.now queue ≡ (try_cut col t.bound state state.queue i).queue
   unfolding try_cut
   queue_next =
       waiting
       ∙ (λ k. pick (ends_column (error_is k) (current_is k)) []
-      (contents (attempted.lent.ring_is k) course.queue
+      (contents (attempted.ring_is k) course.queue
       ++ parts_queued (places_of s c) t.gap (leb t.support 1) (zeros_next k) (error_is k - limit_is k) m i))
       ∙ (λ k. pick (ends_column (error_of col m) state.error) []
       (matches.queue k
       ++ parts_queued_lem col (zeros_of col (m ∷ state.tried)) (limit t.bound (min (error_of col m) state.error)) m i k))
 
-  agrees_next : All (Agree col (recorded (table_of s.rows zs))) (m ∷ state.tried)
+  agrees_next : All (Agree col (recorded zs.table.now)) (m ∷ state.tried)
   agrees_next =
-      let table : List ℕ = table_of s.rows xs in
+      let table : List ℕ = xs.table.now in
       let after : List ℕ = recorded_after table m (errors_at s t.support c m).0 (errors_at s t.support c m).1 in
-      let same : table_of s.rows zs ≡ after = table_is ∙ attempted.lent.table_is in
-      let fits : 2 * m + 1 < length table = omega (arith, table_length s.rows xs enough) in
+      let same : zs.table.now ≡ after = table_is ∙ attempted.table_is in
+      let fits : 2 * m + 1 < length table = omega (arith, enough.table_size) in
       subst (λ (l : List ℕ). All (Agree col (recorded l)) (m ∷ state.tried)) (sym same) (
         sym (recorded_here table m (errors_at s t.support c m).0 (errors_at s t.support c m).1 fits),
         all_map (Agree col (recorded table)) (Agree col (recorded after)) (λ j g. agree_after col table m fits j g) state.tried matches.agrees,

@@ -30,7 +30,6 @@ use Rattle.leaves_score.specs.Lists.{scan_of, Scannable, go_left}
 use Rattle.leaves_score.proofs.Accepted.{accepted, same_sides}
 use Rattle.column_turns.specs.Ready.{MarkingCut, MarkedTo, place_before, TryingCut, Trying}
 use Rattle.column_turns.specs.Promise.{Whole}
-use Rattle.column_turns.proofs.Lent.{marks_length}
 use Rattle.leaves_score.proofs.Marks.{sides_alike}
 
 -- ---- the preceding cut
@@ -110,7 +109,7 @@ module _ (s : Sheet) (whole : Whole s) (c k : ℕ) (here : c < s.columns) (cut_i
 
 -- ---- what a try asks of its parts
 
-module _ (l : LentSheet) (column cut : ℕ) (scratch : List ℕ) (trying : Trying (sheet_in l) column cut scratch) where
+module _ (l : LentSheet) (column cut : ℕ) (was : List ℕ) (trying : Trying (sheet_in l) column cut was) where
   abbrev sheet : Sheet
   sheet = sheet_in l
 
@@ -128,8 +127,8 @@ module _ (l : LentSheet) (column cut : ℕ) (scratch : List ℕ) (trying : Tryin
   unfolding row_at place_of
   tried_cutting =
       record {
-        rows_some = trying.enough.some;
-        rows_most = trying.enough.few;
+        rows_some = trying.whole.sound.limited.rows_some;
+        rows_most = trying.whole.sound.limited.rows_most;
         columns_most = omega (arith, trying.here, trying.whole.sound.limited.columns_most);
         ordered = omega (arith, entries, trying.whole.lengths.order_all);
         valued = omega (arith, entries, trying.whole.lengths.values_all);
@@ -138,7 +137,7 @@ module _ (l : LentSheet) (column cut : ℕ) (scratch : List ℕ) (trying : Tryin
         in_rows = λ i h. (trying.whole.sound.column column trying.here).in_rows i h;
       }
 
-  pub tried_marking : MarkingCut l column cut scratch
+  pub tried_marking : MarkingCut l column cut was
   tried_marking =
       let k : TryingCut l column cut = tried_cutting in
       record {
@@ -147,11 +146,10 @@ module _ (l : LentSheet) (column cut : ℕ) (scratch : List ℕ) (trying : Tryin
               rows_most = k.rows_most;
               columns_most = k.columns_most;
               ordered = k.ordered;
-              marked = omega (arith, marks_length size.rows scratch trying.enough);
+              marked = omega (arith, trying.marked);
               in_rows = k.in_rows;
             };
         listed = tried_listed;
-        enough = trying.enough;
       }
 
   pub tried_scannable : (marks : List ℕ) → length marks ≡ size.rows → MarkedTo size l.order.now column (get_or l.cuts.now (column * size.rows + cut) 0) marks size.rows

@@ -40,14 +40,15 @@ use Rattle.column_search.proofs.Steps.{shrunk_in_lem}
 use Rattle.column_turns.specs.declared.interval_steps.Standing.{Standing}
 use Rattle.column_turns.specs.declared.Course.{Course}
 use Rattle.column_turns.specs.declared.Attempt.{Attempt}
-use Rattle.column_turns.specs.Lent.{table_of, ring_of, RestKept}
+use Rattle.column_turns.specs.declared.Words.{Words}
 use Rattle.column_turns.specs.Promise.{Whole, most_tries, standing_after_run, feasible_at, first_at, last_at}
-use Rattle.column_turns.specs.Ready.{Trying}
+use Rattle.column_turns.specs.Ready.{SameWords, Trying}
 use Rattle.column_turns.specs.Try.{searched_column}
 use Rattle.column_turns.specs.Steps.{pruned_of, PrunedBy}
 use Rattle.column_turns.specs.Parts.{PartsWaiting, CutsNumbered}
 use Rattle.column_turns.specs.Course.{Matches, Stands, Begun, Turning, Turned, Attempted, Attempting}
-use Rattle.column_turns.proofs.Lent.{kept_enough}
+use Rattle.column_turns.proofs.Lent.{enough_after}
+use Rattle.column_turns.proofs.Queueing.{ring_slots}
 use Rattle.column_turns.proofs.Places.{places_count, places_ascend, places_low}
 
 -- ---- the middle
@@ -95,23 +96,22 @@ module _ (s : Sheet) (t : Terms) (c : ℕ) (whole : Whole s) (here : c < s.colum
 
 -- ---- a try's needs
 
-module _ (s : Sheet) (t : Terms) (c : ℕ) (xs : List ℕ) (course : Course) (i : Bound) (attempting : Attempting s t c xs course i) where
+module _ (s : Sheet) (t : Terms) (c : ℕ) (xs : Words) (course : Course) (i : Bound) (attempting : Attempting s t c xs course i) where
   pub middle_in : middle i < count_of s c
   middle_in = omega (arith, middle_high i.first i.last attempting.full, attempting.till)
 
   pub middle_row : middle i < s.rows
   middle_row = omega (arith, middle_in, (attempting.whole.sound.column c attempting.here).cuts.count_most)
 
-  pub to_try : Trying s c (middle i) xs
-  to_try = record { whole = attempting.whole; here = attempting.here; cut_in = middle_in; enough = attempting.enough }
+  pub to_try : Trying s c (middle i) xs.marks.now
+  to_try = record { whole = attempting.whole; here = attempting.here; cut_in = middle_in; marked = attempting.enough.marks_size }
 
-  pub to_part : (ys : List ℕ) (tried : Attempt) (reach : Reach) → Attempted s t.support c (middle i) course.zeros xs ys tried
-      → PartsWaiting s.rows (places_of s c) (record { bound = i; cut = middle i; zeros = tried.zeros; reach = reach }) course.queue ys
+  pub to_part : (ys : Words) (tried : Attempt) (reach : Reach) → Attempted s t.support c (middle i) course.zeros xs ys tried
+      → PartsWaiting (places_of s c) (record { bound = i; cut = middle i; zeros = tried.zeros; reach = reach }) course.queue ys
   to_part ys tried reach attempted =
       let n : length (places_of s c) ≡ count_of s c = places_count s attempting.whole c attempting.here in
       let small : count_of s c < s.rows = (attempting.whole.sound.column c attempting.here).cuts.count_most in
       record {
-        enough = kept_enough s.rows xs ys attempting.enough attempted.lent.kept;
         listed = omega (arith, n, small, attempting.enough.few);
         ascending = places_ascend s attempting.whole c attempting.here;
         full = attempting.full;
@@ -126,8 +126,8 @@ module _ (s : Sheet) (t : Terms) (c : ℕ) (xs : List ℕ) (course : Course) (i 
             (numbered_after (length (places_of s c)) course.zeros (middle i) (errors_at s t.support c (middle i)).0
             (errors_at s t.support c (middle i)).1 (omega (arith, n, middle_in))
             (subst (λ (l : ℕ). CutsNumbered l course.zeros.left) (sym n) attempting.zero));
-        sane = subst (λ (w : List ℕ). Sane w course.queue) (sym attempted.lent.ring_is) attempting.sane;
-        room = attempting.room;
+        sane = subst (λ (w : List ℕ). Sane w course.queue) (sym attempted.ring_is) attempting.sane;
+        room = omega (arith, attempting.room, ring_slots s.rows ys (enough_after attempting.enough attempted.kept));
       }
 
 -- ---- steps 1 and 2
@@ -160,7 +160,7 @@ pruned_same col table z b i l r =
 -- ---- what is left
 
 -- nothing is: the state stays
-pub after_none : (s : Sheet) (t : Terms) (c : ℕ) (p : Standing) (xs : List ℕ) (course : Course) (state : State) (left : Option Bound) → left ≡ None
+pub after_none : (s : Sheet) (t : Terms) (c : ℕ) (p : Standing) (xs : Words) (course : Course) (state : State) (left : Option Bound) → left ≡ None
     → Matches s t c p xs course state → Matches s t c p xs course (after_shrink (searched_column s t c) t.bound state state.queue left)
 unfolding after_shrink standing_after_run
 after_none s t c p xs course state left e matches =
@@ -168,7 +168,7 @@ after_none s t c p xs course state left e matches =
     (record { standing = matches.standing; zeros = matches.zeros; queue = matches.queue; sane = matches.sane; agrees = matches.agrees })
 
 -- an interval is: it is tried
-pub after_some : (s : Sheet) (t : Terms) (c : ℕ) (p : Standing) (xs : List ℕ) (course : Course) (state : State) (left : Option Bound) (j : Bound) → left ≡ Some j
+pub after_some : (s : Sheet) (t : Terms) (c : ℕ) (p : Standing) (xs : Words) (course : Course) (state : State) (left : Option Bound) (j : Bound) → left ≡ Some j
     → Matches s t c p xs course (try_cut (searched_column s t c) t.bound state state.queue j)
     → Matches s t c p xs course (after_shrink (searched_column s t c) t.bound state state.queue left)
 unfolding after_shrink
@@ -188,8 +188,8 @@ length_contents : (words : List ℕ) (q : Queue) → length (contents words q) �
 unfolding contents
 length_contents words q = length_table _ q.waiting
 
-module _ (s : Sheet) (t : Terms) (c : ℕ) (xs : List ℕ) (course : Course) (begun : Begun s t c xs) (waits : 0 < course.queue.waiting)
-    (p : Standing) (stands : Stands s t c p xs course) (b : Bound) (others : Queue) (taken : record { bound = b; queue = others } ≡ popped (ring_of s.rows xs) course.queue) where
+module _ (s : Sheet) (t : Terms) (c : ℕ) (xs : Words) (course : Course) (begun : Begun s t c xs) (waits : 0 < course.queue.waiting)
+    (p : Standing) (stands : Stands s t c p xs course) (b : Bound) (others : Queue) (taken : record { bound = b; queue = others } ≡ popped xs.ring.now course.queue) where
   abbrev col : Column
   col = searched_column s t c
 
@@ -197,7 +197,7 @@ module _ (s : Sheet) (t : Terms) (c : ℕ) (xs : List ℕ) (course : Course) (be
   state = stands.state
 
   abbrev ring : List ℕ
-  ring = ring_of s.rows xs
+  ring = xs.ring.now
 
   abbrev rest : List Bound
   rest = contents ring others
@@ -220,11 +220,11 @@ module _ (s : Sheet) (t : Terms) (c : ℕ) (xs : List ℕ) (course : Course) (be
   waiting_head =
       (subst (All (Waiting col (first_at s t c) (last_at s t c) (limit t.bound state.error) state.tried)) queue_is stands.running.kept.queue).0
 
-  recalled : Held (Agree col (recorded (table_of s.rows xs))) b.left × Held (Agree col (recorded (table_of s.rows xs))) b.right
+  recalled : Held (Agree col (recorded xs.table.now)) b.left × Held (Agree col (recorded xs.table.now)) b.right
   recalled =
-      (subst (All (λ i. Held (Agree col (recorded (table_of s.rows xs))) i.left × Held (Agree col (recorded (table_of s.rows xs))) i.right))
+      (subst (All (λ i. Held (Agree col (recorded xs.table.now)) i.left × Held (Agree col (recorded xs.table.now)) i.right))
       queue_is
-      (recalls col (recorded (table_of s.rows xs)) t.bound (first_at s t c) (last_at s t c) state stands.running.kept stands.matches.agrees)).0
+      (recalls col (recorded xs.table.now) t.bound (first_at s t c) (last_at s t c) state stands.running.kept stands.matches.agrees)).0
 
   -- the definition's error and zero marks are the code's
   current : course.standing.error ≡ state.error
@@ -232,11 +232,11 @@ module _ (s : Sheet) (t : Terms) (c : ℕ) (xs : List ℕ) (course : Course) (be
   current = ap (λ (z : Standing). z.error) stands.matches.standing
 
   -- what the code prunes is what the definition prunes
-  pruned_is : pruned_of (column.recorded_column (places_of s c) (table_of s.rows xs) t.gap (leb t.support 1)) course.zeros (min course.standing.error t.bound) b
+  pruned_is : pruned_of (column.recorded_column (places_of s c) xs.table.now t.gap (leb t.support 1)) course.zeros (min course.standing.error t.bound) b
       ≡ pruned_of col (zeros_of col state.tried) (limit t.bound state.error) b
   pruned_is =
-      (λ k. pruned_of (column.recorded_column (places_of s c) (table_of s.rows xs) t.gap (leb t.support 1)) (stands.matches.zeros k) (min (current k) t.bound) b)
-      ∙ pruned_same col (table_of s.rows xs) (zeros_of col state.tried) (limit t.bound state.error) b recalled.0 recalled.1
+      (λ k. pruned_of (column.recorded_column (places_of s c) xs.table.now t.gap (leb t.support 1)) (stands.matches.zeros k) (min (current k) t.bound) b)
+      ∙ pruned_same col xs.table.now (zeros_of col state.tried) (limit t.bound state.error) b recalled.0 recalled.1
 
   turn_is : (left : Option Bound) → pruned_of col (zeros_of col state.tried) (limit t.bound state.error) b ≡ left
       → turn col t.bound state ≡ after_shrink col t.bound state rest left
@@ -255,10 +255,10 @@ module _ (s : Sheet) (t : Terms) (c : ℕ) (xs : List ℕ) (course : Course) (be
       }
 
   -- whatever is left, the course after it stands
-  stands_next : (zs : List ℕ) (course2 : Course) (left : Option Bound)
+  stands_next : (zs : Words) (course2 : Course) (left : Option Bound)
       → pruned_of col (zeros_of col state.tried) (limit t.bound state.error) b ≡ left
       → Matches s t c p zs course2 (after_shrink col t.bound (dropped state rest) rest left)
-      → Stands s t c p zs course2 × (total weight (contents (ring_of s.rows zs) course2.queue) < total weight (contents ring course.queue))
+      → Stands s t c p zs course2 × (total weight (contents zs.ring.now course2.queue) < total weight (contents ring course.queue))
   stands_next zs course2 left e matches =
       let m : Matches s t c p zs course2 (turn col t.bound state) =
       subst (Matches s t c p zs course2) (after_dropped col t.bound state rest left ∙ sym (turn_is left e)) matches in (
@@ -332,24 +332,24 @@ module _ (s : Sheet) (t : Terms) (c : ℕ) (xs : List ℕ) (course : Course) (be
 -- ---- a turn
 
 -- what the code prunes, by the places that it reads
-module _ (s : Sheet) (t : Terms) (c : ℕ) (xs : List ℕ) (course : Course) (first : Popped) (turning : Turning s t c xs course first)
+module _ (s : Sheet) (t : Terms) (c : ℕ) (xs : Words) (course : Course) (first : Popped) (turning : Turning s t c xs course first)
     (places : List ℕ) (places_are : places ≡ places_of s c)
-    (left : Option Bound) (pruned : PrunedBy s.rows t places course.zeros first.bound course.standing.error xs left) where
+    (left : Option Bound) (pruned : PrunedBy t places course.zeros first.bound course.standing.error xs.table.now left) where
   begun : Begun s t c xs
   begun = turning.begun
 
   waits : 0 < course.queue.waiting
-  waits = (take_popped (ring_of s.rows xs) course.queue first turning.first_is).0
+  waits = (take_popped xs.ring.now course.queue first turning.first_is).0
 
-  popped_is : first ≡ popped (ring_of s.rows xs) course.queue
-  popped_is = (take_popped (ring_of s.rows xs) course.queue first turning.first_is).1
+  popped_is : first ≡ popped xs.ring.now course.queue
+  popped_is = (take_popped xs.ring.now course.queue first turning.first_is).1
 
   left_is : (p : Standing) (stands : Stands s t c p xs course)
       → pruned_of (searched_column s t c) (zeros_of (searched_column s t c) stands.state.tried) (limit t.bound stands.state.error) first.bound ≡ left
   left_is p stands =
       sym (pruned_is s t c xs course begun waits p stands first.bound first.queue popped_is)
       ∙ sym (pruned (subst Ascending (sym places_are) (places_ascend s begun.whole c begun.here))
-      ∙ (λ k. pruned_of (column.recorded_column (places_are k) (table_of s.rows xs) t.gap (leb t.support 1)) course.zeros (min course.standing.error t.bound) first.bound))
+      ∙ (λ k. pruned_of (column.recorded_column (places_are k) xs.table.now t.gap (leb t.support 1)) course.zeros (min course.standing.error t.bound) first.bound))
 
   pub turn_attempts : (j : Bound) → left ≡ Some j → Attempting s t c xs (record { standing = course.standing; zeros = course.zeros; queue = first.queue }) j
   turn_attempts j e =
@@ -357,15 +357,15 @@ module _ (s : Sheet) (t : Terms) (c : ℕ) (xs : List ℕ) (course : Course) (fi
       (left_is turning.from turning.stands ∙ e)
 
   -- a course that is the definition's after what is left is one turn on
-  pub turn_done : (zs : List ℕ) (next : Course)
+  pub turn_done : (zs : Words) (next : Course)
       → ((p : Standing) (state : State) → Matches s t c p xs (record { standing = course.standing; zeros = course.zeros; queue = first.queue }) state
       → Matches s t c p zs next (after_shrink (searched_column s t c) t.bound state state.queue left))
-      → RestKept s.rows xs zs → Turned s t c course xs next zs
+      → SameWords xs zs → Turned s t c course xs next zs
   turn_done zs next follows kept =
       let same : (p : Standing) (stands : Stands s t c p xs course)
-      → Stands s t c p zs next × (total weight (contents (ring_of s.rows zs) next.queue) < total weight (contents (ring_of s.rows xs) course.queue)) =
+      → Stands s t c p zs next × (total weight (contents zs.ring.now next.queue) < total weight (contents xs.ring.now course.queue)) =
       λ p stands.
       stands_next s t c xs course begun waits p stands first.bound first.queue popped_is zs next left (left_is p stands)
-      (follows p (dropped stands.state (contents (ring_of s.rows xs) first.queue))
+      (follows p (dropped stands.state (contents xs.ring.now first.queue))
       (without_first s t c xs course begun waits p stands first.bound first.queue popped_is)) in
       record { stands = λ p stands. (same p stands).0; lighter = (same turning.from turning.stands).1; kept = kept }

@@ -1,26 +1,7 @@
 -- For a signer. The lent words, eight a row: the errors of the cuts tried, two words a cut; the ring of intervals, four words a slot, a slot a
 -- row; the side mark of each row; one word a row to spare. The input check, which comes before, uses the first word of each row. Definitions only.
-use Rattle.std.specs.Prelude.{◌≡◌, ℕ, ◌-◌, ◌*◌, ◌≤◌, List, length, take, drop}
+use Rattle.std.specs.Prelude.{◌≡◌, ℕ, ◌*◌, ◌≤◌, List, length, drop}
 use Rattle.sheet.specs.Limits.{most_rows, words_per_row}
-
--- where the ring and the marks begin, and where the marks end, in words a row
-abbrev pub ring_at : ℕ
-ring_at = 2
-
-abbrev pub marks_at : ℕ
-marks_at = 6
-
-abbrev pub spare_at : ℕ
-spare_at = 7
-
-unfoldable pub table_of : ℕ → List ℕ → List ℕ
-table_of rows scratch = take (ring_at * rows) scratch
-
-unfoldable pub ring_of : ℕ → List ℕ → List ℕ
-ring_of rows scratch = take (marks_at * rows - ring_at * rows) (drop (ring_at * rows) scratch)
-
-unfoldable pub marks_of : ℕ → List ℕ → List ℕ
-marks_of rows scratch = take (spare_at * rows - marks_at * rows) (drop (marks_at * rows) scratch)
 
 -- what is not the search's to use
 unfoldable pub rest_of : ℕ → List ℕ → List ℕ

@@ -9,11 +9,12 @@ use Rattle.interval_pruner.specs.declared.Parts.{Parts}
 use Rattle.interval_pruner.specs.Column as column
 use Rattle.interval_pruner.specs.Pruner.{parts_of, Held}
 use Rattle.interval_queue.specs.declared.Queue.{Queue}
-use Rattle.interval_queue.specs.Ring.{contents}
+use Rattle.interval_queue.specs.Ring.{slots_of, contents}
 use Rattle.interval_queue.specs.Laws.{Sane, SmallBound}
 use Rattle.column_search.specs.Search.{part, upper_part, lower_part}
 use Rattle.column_turns.specs.declared.Parting.{Parting}
-use Rattle.column_turns.specs.Lent.{table_of, ring_of, Enough, RestKept}
+use Rattle.column_turns.specs.declared.Words.{Words}
+use Rattle.column_turns.specs.Ready.{SameWords}
 
 -- a cut of a list of n, if there is one
 abbrev pub CutsNumbered : ℕ → Option ℕ → Type 0
@@ -30,30 +31,28 @@ abbrev pub parted : List ℕ → Parting → List Bound
 parted places p = parts_queued places p.reach.gap p.reach.small p.zeros p.reach.excess p.cut p.bound
 
 -- a part that can be queued, if it is not empty
-pub record Pushing (rows : ℕ) (scratch : List ℕ) (queue : Queue) (i : Bound) : Type 0 where
-  pub enough : Enough rows scratch
-  pub sane : Sane (ring_of rows scratch) queue
-  pub room : queue.waiting < rows
+pub record Pushing (words : Words) (queue : Queue) (i : Bound) : Type 0 where
+  pub sane : Sane words.ring.now queue
+  pub room : queue.waiting < slots_of words.ring.now
   pub small : i.first ≤ i.last → SmallBound i
 
 -- more intervals in the queue, at its end, and the table as it was
-pub record Queued (rows : ℕ) (was scratch : List ℕ) (queue after : Queue) (more : List Bound) : Type 0 where
-  pub contents_are : contents (ring_of rows scratch) after ≡ contents (ring_of rows was) queue ++ more
-  pub sane : Sane (ring_of rows scratch) after
+pub record Queued (was words : Words) (queue after : Queue) (more : List Bound) : Type 0 where
+  pub contents_are : contents words.ring.now after ≡ contents was.ring.now queue ++ more
+  pub sane : Sane words.ring.now after
   pub waiting : after.waiting ≤ queue.waiting + length more
-  pub table_is : table_of rows scratch ≡ table_of rows was
-  pub kept : RestKept rows was scratch
+  pub table_is : words.table.now ≡ was.table.now
+  pub kept : SameWords was words
 
 -- what waits after a try: nothing if the column is over, else what waited and the parts of the interval
-pub record QueuedAfter (rows : ℕ) (places : List ℕ) (p : Parting) (over : Bool) (queue : Queue) (was : List ℕ) (after : Queue) (scratch : List ℕ) : Type 0 where
-  pub contents_are : contents (ring_of rows scratch) after ≡ pick over [] (contents (ring_of rows was) queue ++ parted places p)
-  pub sane : Sane (ring_of rows scratch) after
-  pub table_is : table_of rows scratch ≡ table_of rows was
-  pub kept : RestKept rows was scratch
+pub record QueuedAfter (places : List ℕ) (p : Parting) (over : Bool) (queue : Queue) (was : Words) (after : Queue) (words : Words) : Type 0 where
+  pub contents_are : contents words.ring.now after ≡ pick over [] (contents was.ring.now queue ++ parted places p)
+  pub sane : Sane words.ring.now after
+  pub table_is : words.table.now ≡ was.table.now
+  pub kept : SameWords was words
 
 -- an interval of listed cuts, with remembered cuts of the list, whose middle is tried
-pub record PartsWaiting (rows : ℕ) (places : List ℕ) (p : Parting) (queue : Queue) (scratch : List ℕ) : Type 0 where
-  pub enough : Enough rows scratch
+pub record PartsWaiting (places : List ℕ) (p : Parting) (queue : Queue) (words : Words) : Type 0 where
   pub listed : length places ≤ most_rows
   pub ascending : Ascending places
   pub full : p.bound.first ≤ p.bound.last
@@ -64,5 +63,5 @@ pub record PartsWaiting (rows : ℕ) (places : List ℕ) (p : Parting) (queue : 
   pub left : Held (λ k. k < length places) p.bound.left
   pub right : Held (λ k. k < length places) p.bound.right
   pub zero : CutsNumbered (length places) p.zeros.left
-  pub sane : Sane (ring_of rows scratch) queue
-  pub room : queue.waiting + 2 ≤ rows
+  pub sane : Sane words.ring.now queue
+  pub room : queue.waiting + 2 ≤ slots_of words.ring.now

@@ -6,15 +6,28 @@ use Rattle.sheet.specs.Limits.{most_rows, most_columns}
 use Rattle.sheet.specs.declared.lent.LentSheet.{LentSheet}
 use Rattle.sheet.specs.Sheet.{Sheet, count_of}
 use Rattle.tree.specs.declared.Tree.{Tree}
-use Rattle.column_turns.specs.Lent.{table_of, ring_of, marks_of, Enough, RestKept}
+use Rattle.column_turns.specs.declared.Words.{Words}
 use Rattle.column_turns.specs.Promise.{Whole}
 use Rattle.column_turns.specs.Try.{tried_tree}
 
--- the lent words became others: these are the table and the ring now, and the rest is as it was
-pub record Became (rows : ℕ) (was scratch table ring : List ℕ) : Type 0 where
-  pub kept : RestKept rows was scratch
-  pub table_is : table_of rows scratch ≡ table
-  pub ring_is : ring_of rows scratch ≡ ring
+-- ---- the lent words
+
+-- the same memory, and as much of it
+pub record SameWords (was words : Words) : Type 0 where
+  pub table_memory : words.table.ghost_name ≡ was.table.ghost_name
+  pub ring_memory : words.ring.ghost_name ≡ was.ring.ghost_name
+  pub marks_memory : words.marks.ghost_name ≡ was.marks.ghost_name
+  pub table_size : length words.table.now ≡ length was.table.now
+  pub ring_size : length words.ring.now ≡ length was.ring.now
+  pub marks_size : length words.marks.now ≡ length was.marks.now
+
+-- two words of the table for each row, four of the ring, and a mark
+pub record EnoughWords (rows : ℕ) (words : Words) : Type 0 where
+  pub some : 1 ≤ rows
+  pub few : rows ≤ most_rows
+  pub table_size : length words.table.now ≡ 2 * rows
+  pub ring_size : length words.ring.now ≡ 4 * rows
+  pub marks_size : length words.marks.now ≡ rows
 
 -- ---- the side marks
 
@@ -33,17 +46,15 @@ MarkedTo size order column place marks n =
     → (i : ℕ) → i < n
     → get_or marks (get_or order (column * size.rows + i) 0) 0 ≡ pick (left (get_or order (column * size.rows + i) 0)) 0 1
 
--- the same, with the marks in the lent words, and a cut of the list
-pub record MarkingCut (l : LentSheet) (column cut : ℕ) (scratch : List ℕ) : Type 0 where
-  pub marking : Marking l.measured.size l.order.now column (marks_of l.measured.size.rows scratch)
+-- the same, with a cut of the list
+pub record MarkingCut (l : LentSheet) (column cut : ℕ) (marks : List ℕ) : Type 0 where
+  pub marking : Marking l.measured.size l.order.now column marks
   pub listed : column * l.measured.size.rows + cut < length l.cuts.now
-  pub enough : Enough l.measured.size.rows scratch
 
--- the marks of a cut in the lent words, with the table and the ring as they were
-pub record CutMarked (l : LentSheet) (column cut : ℕ) (was scratch : List ℕ) : Type 0 where
-  pub became : Became l.measured.size.rows was scratch (table_of l.measured.size.rows was) (ring_of l.measured.size.rows was)
-  pub marked : MarkedTo l.measured.size l.order.now column (get_or l.cuts.now (column * l.measured.size.rows + cut) 0)
-      (marks_of l.measured.size.rows scratch) l.measured.size.rows
+-- the marks of a cut
+pub record CutMarked (l : LentSheet) (column cut : ℕ) (was marks : List ℕ) : Type 0 where
+  pub size : length marks ≡ length was
+  pub marked : MarkedTo l.measured.size l.order.now column (get_or l.cuts.now (column * l.measured.size.rows + cut) 0) marks l.measured.size.rows
 
 -- ---- a try
 
@@ -63,17 +74,16 @@ pub record TryingCut (l : LentSheet) (column cut : ℕ) : Type 0 where
   pub placed : (k : ℕ) → k ≤ cut → get_or l.cuts.now (column * l.measured.size.rows + k) 0 < l.measured.size.rows
   pub in_rows : (i : ℕ) → i < l.measured.size.rows → get_or l.order.now (column * l.measured.size.rows + i) 0 < l.measured.size.rows
 
--- a listed cut of an accepted sheet, and scratch enough
-pub record Trying (s : Sheet) (column cut : ℕ) (scratch : List ℕ) : Type 0 where
+-- a listed cut of an accepted sheet, and a mark for each row
+pub record Trying (s : Sheet) (column cut : ℕ) (marks : List ℕ) : Type 0 where
   pub whole : Whole s
   pub here : column < s.columns
   pub cut_in : cut < count_of s column
-  pub enough : Enough s.rows scratch
+  pub marked : length marks ≡ s.rows
 
--- the tree that it makes, with the table and the ring as they were
+-- the tree that it makes, and as many marks as before
 abbrev pub CutTried : Sheet → ℕ → ℕ → ℕ → List ℕ → Tree → List ℕ → Type 0
-CutTried s support column cut was tree scratch =
-    (tree ≡ tried_tree s support column cut) × Became s.rows was scratch (table_of s.rows was) (ring_of s.rows was)
+CutTried s support column cut was tree marks = (tree ≡ tried_tree s support column cut) × (length marks ≡ length was)
 
 -- ---- a column's cuts
 

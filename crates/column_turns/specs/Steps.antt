@@ -11,16 +11,15 @@ use Rattle.interval_pruner.specs.declared.Zeros.{Zeros}
 use Rattle.interval_pruner.specs.Column.{Column, recorded_column}
 use Rattle.interval_pruner.specs.Pruner.{hopeless, shrunk_of}
 use Rattle.column_turns.specs.declared.interval_steps.Standing.{Standing}
-use Rattle.column_turns.specs.Lent.{table_of}
 
 -- steps 1 and 2: what is left of an interval, nothing where it is hopeless
 unfoldable pub pruned_of : Column → Zeros → ℕ → Bound → Option Bound
 pruned_of c z b i = pick (hopeless c b i) None (shrunk_of c z b i)
 
--- the same by the errors that the lent words keep, at the current error
-abbrev pub PrunedBy : ℕ → Terms → List ℕ → Zeros → Bound → ℕ → List ℕ → Option Bound → Type 0
-PrunedBy rows t places z i error scratch left =
-    Ascending places → left ≡ pruned_of (recorded_column places (table_of rows scratch) t.gap (leb t.support 1)) z (min error t.bound) i
+-- the same by the errors that the table keeps, at the current error
+abbrev pub PrunedBy : Terms → List ℕ → Zeros → Bound → ℕ → List ℕ → Option Bound → Type 0
+PrunedBy t places z i error table left =
+    Ascending places → left ≡ pruned_of (recorded_column places table t.gap (leb t.support 1)) z (min error t.bound) i
 
 -- steps 3 and 4 for a tree of that error
 unfoldable pub improved_by : Standing → Tree → Standing

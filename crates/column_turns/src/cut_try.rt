@@ -4,23 +4,12 @@ ghost use Rattle.basics.specs.Choice.{pick};
 ghost use Rattle.sheet.specs.Lent.{sheet_in};
 ghost use Rattle.sheet.specs.Limits.{most_rows};
 ghost use Rattle.tree.specs.Answer.{side_error};
-ghost use Rattle.leaves_score.specs.Scan.{sides_of};
 ghost use Rattle.leaves_score.specs.Root.{cut_question};
-ghost use Rattle.leaves_score.specs.Lists.{Scannable, scan_of, go_left};
-ghost use Rattle.column_turns.specs.Lent.{marks_of, Enough};
 ghost use Rattle.column_turns.specs.Ready.{Marking, MarkedTo, MarkingCut, CutMarked, place_before, TryingCut, Trying, CutTried};
 
-use leaves_score::Sides;
 use sheet::Size;
 use sheet::lent::LentSheet;
 use tree::{Question, Side, Tree};
-
-// The lent words in words a row: first the errors of the cuts tried, then the ring of intervals, then the side marks, then one to spare.
-pub(crate) const RING: usize = 2;
-
-pub(crate) const MARKS: usize = 6;
-
-const SPARE: usize = 7;
 
 // 0 for a place before the cut's, else 1.
 #[tactic(auto, unfolding(basics::specs::Choice::pick))]
@@ -87,26 +76,13 @@ pub(crate) fn side_error(side: Side) -> u32
 }
 
 // The rows' marks at a cut.
-#[tactic(auto, using(crate::proofs::Lent::marks_put, crate::proofs::Lent::marks_there), unfolding(crate::specs::Lent::marks_of))]
-fn mark_cut(sheet: &LentSheet, column: usize, cut: usize, scratch: &mut [u32])
-    requires { MarkingCut sheet.now column cut scratch.old }
-    ensures { CutMarked sheet.now column cut scratch.old scratch.new }
+fn mark_cut(sheet: &LentSheet, column: usize, cut: usize, marks: &mut [u32])
+    requires { MarkingCut sheet.now column cut marks.old }
+    ensures { CutMarked sheet.now column cut marks.old marks.new }
 {
     let size = sheet.measured.size;
-    let rows = size.rows;
-    let place = usize::from(sheet.cuts[column * rows + cut]);
-    let marks = &mut scratch[MARKS * rows..SPARE * rows];
+    let place = usize::from(sheet.cuts[column * size.rows + cut]);
     mark_sides(size, sheet.order, column, place, marks);
-}
-
-// The best of each side, by the rows' marks.
-#[tactic(auto, unfolding(crate::specs::Lent::marks_of))]
-fn scan_sides(sheet: &LentSheet, support: u32, scratch: &[u32]) -> Sides
-    requires { Enough sheet.now.measured.size.rows scratch.now × Scannable (scan_of (sheet_in sheet.now)) (marks_of sheet.now.measured.size.rows scratch.now) }
-    ensures { result ≡ sides_of (scan_of (sheet_in sheet.now)) support (go_left (marks_of sheet.now.measured.size.rows scratch.now)) }
-{
-    let rows = sheet.measured.size.rows;
-    leaves_score::get_leaves_score(sheet, support, &scratch[MARKS * rows..SPARE * rows])
 }
 
 // One cut as the first question: the tree that it makes.
@@ -115,14 +91,14 @@ pub(crate) fn try_cut(
     support: u32,
     column: usize,
     cut: usize,
-    scratch: &mut [u32],
+    marks: &mut [u32],
 ) -> Tree
-    requires { Trying (sheet_in sheet.now) column cut scratch.old }
-    ensures { CutTried (sheet_in sheet.now) support column cut scratch.old result scratch.new }
+    requires { Trying (sheet_in sheet.now) column cut marks.old }
+    ensures { CutTried (sheet_in sheet.now) support column cut marks.old result marks.new }
 {
     let question = root_question(sheet, column, cut);
-    mark_cut(sheet, column, cut, scratch);
-    let sides = scan_sides(sheet, support, scratch);
+    mark_cut(sheet, column, cut, marks);
+    let sides = leaves_score::get_leaves_score(sheet, support, marks);
     let left = sides.left;
     let right = sides.right;
     let error = side_error(left) + side_error(right);

@@ -1,11 +1,10 @@
 // What one interval's turn decides (depth2.rs): what steps 1 and 2 leave of the interval, and what a try makes of the standing.
 ghost use Rattle.std.specs.Prelude.{◌≡◌, ◌+◌, ◌*◌, ◌≤◌};
 ghost use Rattle.sheet.specs.Limits.{most_columns};
-ghost use Rattle.column_turns.specs.Lent.{Enough};
 ghost use Rattle.column_turns.specs.Promise.{most_tries};
 ghost use Rattle.column_turns.specs.Steps.{PrunedBy, reach_of, improved_by, ends_column};
 
-use crate::cut_try::RING;
+use crate::Words;
 use interval_pruner::interval_shrinking::interval_shrinking;
 use interval_pruner::subinterval_pruning::subinterval_pruning;
 use interval_pruner::{Bound, Reach, Target, Tries, Zeros};
@@ -21,18 +20,16 @@ pub struct Standing {
 }
 
 // Steps 1 and 2: what is left of an interval.
-#[tactic(auto, unfolding(crate::specs::Steps::pruned_of, crate::specs::Lent::table_of, basics::specs::Choice::pick))]
+#[tactic(auto, unfolding(crate::specs::Steps::pruned_of, basics::specs::Choice::pick))]
 pub(crate) fn prune(
-    rows: usize,
     terms: Terms,
     places: &[u16],
     zeros: Zeros,
     bound: Bound,
     error: u32,
-    scratch: &[u32],
+    words: &Words,
 ) -> Option<Bound>
-    requires { Enough rows scratch.now }
-    ensures { PrunedBy rows terms places.now zeros bound error scratch.now result }
+    ensures { PrunedBy terms places.now zeros bound error words.now.table.now result }
 {
     let best = error.min(terms.bound);
     let target = Target {
@@ -40,7 +37,7 @@ pub(crate) fn prune(
         best,
         small: terms.support <= 1,
     };
-    let table = &scratch[..RING * rows];
+    let table: &[u32] = words.table;
     if subinterval_pruning(table, bound, target) {
         return None;
     }

@@ -4,21 +4,20 @@
 pub mod cut_try;
 pub mod interval_steps;
 
-ghost use Rattle.std.specs.Prelude.{◌≡◌, ◌≤◌, ◌<◌};
+ghost use Rattle.std.specs.Prelude.{◌≡◌, ◌≤◌, ◌<◌, length};
 ghost use Rattle.sheet.specs.Limits.{most_rows};
 ghost use Rattle.sheet.specs.Sheet.{places_of};
 ghost use Rattle.sheet.specs.Lent.{sheet_in};
-ghost use Rattle.interval_pruner.specs.Pruner.{zeros_after, recorded_after};
-ghost use Rattle.interval_queue.specs.Ring.{taken, pushed, pushed_words};
+ghost use Rattle.interval_queue.specs.Ring.{slots_of, taken};
 ghost use Rattle.column_search.specs.Search.{part, upper_part, lower_part};
-ghost use Rattle.column_turns.specs.Lent.{table_of, ring_of, Enough, RestKept};
-ghost use Rattle.column_turns.specs.Promise.{Searching, ColumnSearched};
-ghost use Rattle.column_turns.specs.Ready.{Became, Trying, PlacedIn};
+ghost use Rattle.column_turns.specs.Promise.{Searching, ColumnSearched, standing_after_column};
+ghost use Rattle.column_turns.specs.Ready.{SameWords, Trying, PlacedIn};
 ghost use Rattle.column_turns.specs.Parts.{PartsWaiting, Pushing, Queued, QueuedAfter, parted};
-ghost use Rattle.column_turns.specs.Course.{Attempted, Attempting, IntervalTried, Turning, Turned, Opened};
+ghost use Rattle.column_turns.specs.Course.{Attempted, Attempting, IntervalTried, Turning, Turned, Opened, Starting, SearchingIn, CutsSearched};
 
-use crate::cut_try::{MARKS, RING, side_error, try_cut};
+use crate::cut_try::{side_error, try_cut};
 use crate::interval_steps::{Standing, ends_column, improved, prune, reach_of};
+use cuts::Run;
 use cuts::feasible_cuts::support_feasible_splits;
 use interval_pruner::neighbourhood_pruning::neighbourhood_pruning;
 use interval_pruner::{Bound, Reach, Zeros};
@@ -27,33 +26,34 @@ use sheet::Terms;
 use sheet::lent::LentSheet;
 use tree::Tree;
 
-// The first interval that waits.
-#[tactic(auto, unfolding(crate::specs::Lent::ring_of))]
-fn next_interval(rows: usize, queue: Queue, scratch: &[u32]) -> Option<Popped>
-    requires { Enough rows scratch.now }
-    ensures { result ≡ taken (ring_of rows scratch.now) queue }
-{
-    interval_queue::pop(&scratch[RING * rows..MARKS * rows], queue)
+// The lent words in words a row: first the errors of the cuts tried, two a cut, then the ring of intervals, four a slot, then a side mark.
+const TABLE_WORDS: usize = 2;
+
+const RING_WORDS: usize = 4;
+
+// The lent words of a column's search: the errors of the cuts tried, the ring of intervals, and the rows' side marks.
+#[derive(Drop)]
+pub(crate) struct Words<'a> {
+    pub(crate) table: &'a mut [u32],
+    pub(crate) ring: &'a mut [u32],
+    pub(crate) marks: &'a mut [u32],
 }
 
-// One interval more.
-#[tactic(auto, using(crate::proofs::Lent::ring_became, crate::proofs::Lent::pushed_length), unfolding(crate::specs::Lent::ring_of))]
-fn add_interval(rows: usize, queue: Queue, bound: Bound, scratch: &mut [u32]) -> Queue
-    requires { Enough rows scratch.old }
-    ensures value { result ≡ pushed (ring_of rows scratch.old) queue }
-    ensures lent { Became rows scratch.old scratch.new (table_of rows scratch.old) (pushed_words (ring_of rows scratch.old) queue bound) }
+// The first interval that waits.
+fn next_interval(words: &Words, queue: Queue) -> Option<Popped>
+    ensures { result ≡ taken words.now.ring.now queue }
 {
-    interval_queue::push(&mut scratch[RING * rows..MARKS * rows], queue, bound)
+    interval_queue::pop(words.ring, queue)
 }
 
 // A part is queued if it is not empty.
 #[tactic(auto, using(crate::proofs::Queueing::part_pushed, crate::proofs::Queueing::none_queued, crate::proofs::Queueing::part_none))]
-fn queue_part(rows: usize, queue: Queue, bound: Bound, scratch: &mut [u32]) -> Queue
-    requires { Pushing rows scratch.old queue bound }
-    ensures { Queued rows scratch.old scratch.new queue result (part bound) }
+fn queue_part(words: &mut Words, queue: Queue, bound: Bound) -> Queue
+    requires { Pushing words.old queue bound }
+    ensures { Queued words.old words.new queue result (part bound) }
 {
     if bound.first <= bound.last {
-        return add_interval(rows, queue, bound, scratch);
+        return interval_queue::push(words.ring, queue, bound);
     }
     queue
 }
@@ -90,15 +90,9 @@ struct Parting {
 }
 
 // Step 5: the upper part, then the lower.
-fn queue_parts(
-    rows: usize,
-    places: &[u16],
-    parting: Parting,
-    queue: Queue,
-    scratch: &mut [u32],
-) -> Queue
-    requires { PartsWaiting rows places.now parting queue scratch.old }
-    ensures { Queued rows scratch.old scratch.new queue result (parted places.now parting) }
+fn queue_parts(words: &mut Words, places: &[u16], parting: Parting, queue: Queue) -> Queue
+    requires { PartsWaiting places.now parting queue words.old }
+    ensures { Queued words.old words.new queue result (parted places.now parting) }
 {
     let Parting {
         bound,
@@ -112,22 +106,21 @@ fn queue_parts(
     let parts = neighbourhood_pruning(places, zeros, reach, bound.first, cut);
     let upper = upper_part(bound, cut, parts.upper);
     let lower = lower_part(bound, cut, parts.lower);
-    let more = queue_part(rows, queue, upper, scratch);
-    queue_part(rows, more, lower, scratch)
+    let more = queue_part(words, queue, upper);
+    queue_part(words, more, lower)
 }
 
 // What waits after a try: nothing if the column is over, else the parts of its interval too.
 #[tactic(auto, unfolding(basics::specs::Choice::pick))]
 fn next_queue(
-    rows: usize,
+    words: &mut Words,
     places: &[u16],
     parting: Parting,
     over: bool,
     queue: Queue,
-    scratch: &mut [u32],
 ) -> Queue
-    requires { PartsWaiting rows places.now parting queue scratch.old }
-    ensures { QueuedAfter rows places.now parting over queue scratch.old result scratch.new }
+    requires { PartsWaiting places.now parting queue words.old }
+    ensures { QueuedAfter places.now parting over queue words.old result words.new }
 {
     if over {
         return Queue {
@@ -135,24 +128,7 @@ fn next_queue(
             ..queue
         };
     }
-    queue_parts(rows, places, parting, queue, scratch)
-}
-
-// The errors of a tried cut are kept, and the zero marks moved.
-#[tactic(auto, using(crate::proofs::Lent::table_became, interval_pruner::proofs::Results::recorded_length), unfolding(crate::specs::Lent::table_of))]
-fn keep_errors(
-    rows: usize,
-    zeros: Zeros,
-    cut: usize,
-    left: u32,
-    right: u32,
-    scratch: &mut [u32],
-) -> Zeros
-    requires { Enough rows scratch.old }
-    ensures value { result ≡ zeros_after zeros cut left right }
-    ensures lent { Became rows scratch.old scratch.new (recorded_after (table_of rows scratch.old) cut left right) (ring_of rows scratch.old) }
-{
-    interval_pruner::add_result(&mut scratch[..RING * rows], zeros, cut, left, right)
+    queue_parts(words, places, parting, queue)
 }
 
 // ---- one interval
@@ -190,16 +166,15 @@ fn try_and_keep(
     column: usize,
     cut: usize,
     zeros: Zeros,
-    scratch: &mut [u32],
+    words: &mut Words,
 ) -> Attempt
-    requires { Trying (sheet_in sheet.now) column cut scratch.old }
-    ensures { Attempted (sheet_in sheet.now) support column cut zeros scratch.old scratch.new result }
+    requires { Trying (sheet_in sheet.now) column cut words.old.marks.now }
+    ensures { Attempted (sheet_in sheet.now) support column cut zeros words.old words.new result }
 {
-    let rows = sheet.measured.size.rows;
-    let tree = try_cut(sheet, support, column, cut, scratch);
+    let tree = try_cut(sheet, support, column, cut, words.marks);
     let left = side_error(tree.left);
     let right = side_error(tree.right);
-    let zeros = keep_errors(rows, zeros, cut, left, right, scratch);
+    let zeros = interval_pruner::add_result(words.table, zeros, cut, left, right);
     Attempt { tree, zeros }
 }
 
@@ -210,27 +185,26 @@ fn try_interval(
     column: usize,
     course: Course,
     bound: Bound,
-    scratch: &mut [u32],
+    words: &mut Words,
 ) -> Course
-    requires { Attempting (sheet_in sheet.now) terms column scratch.old course bound }
-    ensures { IntervalTried (sheet_in sheet.now) terms column course bound scratch.old result scratch.new }
+    requires { Attempting (sheet_in sheet.now) terms column words.old course bound }
+    ensures { IntervalTried (sheet_in sheet.now) terms column course bound words.old result words.new }
 {
     let cut = (bound.first + bound.last) / 2;
-    let tried = try_and_keep(sheet, terms.support, column, cut, course.zeros, scratch);
+    let tried = try_and_keep(sheet, terms.support, column, cut, course.zeros, words);
     let tree = tried.tree;
     let zeros = tried.zeros;
     let standing = improved(course.standing, tree);
     let over = ends_column(tree.error, course.standing.error);
     let reach = reach_of(terms, tree.error, standing.error);
     let places = places_of(sheet, column);
-    let rows = sheet.measured.size.rows;
     let parting = Parting {
         bound,
         cut,
         zeros,
         reach,
     };
-    let queue = next_queue(rows, places, parting, over, course.queue, scratch);
+    let queue = next_queue(words, places, parting, over, course.queue);
     Course {
         standing,
         zeros,
@@ -245,46 +219,31 @@ fn turn(
     column: usize,
     course: Course,
     first: Popped,
-    scratch: &mut [u32],
+    words: &mut Words,
 ) -> Course
-    requires { Turning (sheet_in sheet.now) terms column scratch.old course first }
-    ensures { Turned (sheet_in sheet.now) terms column course scratch.old result scratch.new }
+    requires { Turning (sheet_in sheet.now) terms column words.old course first }
+    ensures { Turned (sheet_in sheet.now) terms column course words.old result words.new }
 {
     let others = Course {
         queue: first.queue,
         ..course
     };
-    let rows = sheet.measured.size.rows;
     let error = course.standing.error;
     let places = places_of(sheet, column);
-    let pruned = prune(
-        rows,
-        terms,
-        places,
-        course.zeros,
-        first.bound,
-        error,
-        scratch,
-    );
+    let pruned = prune(terms, places, course.zeros, first.bound, error, words);
     let Some(left) = pruned else {
         return others;
     };
-    try_interval(sheet, terms, column, others, left, scratch)
+    try_interval(sheet, terms, column, others, left, words)
 }
 
 // ---- a column
 
 // One interval waits, the feasible cuts.
-fn begin_column(
-    rows: usize,
-    first: usize,
-    last: usize,
-    standing: Standing,
-    scratch: &mut [u32],
-) -> Course
-    requires { Enough rows scratch.old × (first ≤ last) × (last < most_rows) }
-    ensures opened { Opened rows scratch.new first last standing result }
-    ensures lent { RestKept rows scratch.old scratch.new }
+fn begin_column(words: &mut Words, first: usize, last: usize, standing: Standing) -> Course
+    requires { (1 ≤ slots_of words.old.ring.now) × (first ≤ last) × (last < most_rows) }
+    ensures opened { Opened words.new first last standing result }
+    ensures lent { SameWords words.old words.new }
 {
     let all = Bound {
         first,
@@ -292,7 +251,7 @@ fn begin_column(
         left: None,
         right: None,
     };
-    let queue = queue_part(rows, Queue::default(), all, scratch);
+    let queue = queue_part(words, Queue::default(), all);
     Course {
         standing,
         zeros: Zeros::default(),
@@ -300,7 +259,51 @@ fn begin_column(
     }
 }
 
-// One column's search: turn by turn, from the one interval of its feasible cuts, until nothing waits.
+// Turn by turn, from the one interval of the feasible cuts, until nothing waits.
+fn search_cuts(
+    sheet: &LentSheet,
+    terms: Terms,
+    column: usize,
+    run: Run,
+    standing: Standing,
+    words: &mut Words,
+) -> Standing
+    requires { Starting (sheet_in sheet.now) terms column run standing words.old }
+    ensures { CutsSearched (sheet_in sheet.now) terms column standing words.old result words.new }
+{
+    let mut course = begin_column(words, run.first, run.end - 1, standing);
+    while let Some(first) = next_interval(words, course.queue) {
+        course = turn(sheet, terms, column, course, first, words);
+    }
+    course.standing
+}
+
+// One column's search in the three parts of its words, if it has a feasible cut.
+fn search_in(
+    sheet: &LentSheet,
+    terms: Terms,
+    column: usize,
+    standing: Standing,
+    table: &mut [u32],
+    ring: &mut [u32],
+    marks: &mut [u32],
+) -> Standing
+    requires { SearchingIn (sheet_in sheet.now) column standing table.old ring.old marks.old }
+    ensures standing_is { result ≡ standing_after_column (sheet_in sheet.now) terms column standing }
+    ensures table_size { length table.new ≡ length table.old }
+    ensures ring_size { length ring.new ≡ length ring.old }
+    ensures marks_size { length marks.new ≡ length marks.old }
+{
+    let rows = sheet.measured.size.rows;
+    let run = support_feasible_splits(places_of(sheet, column), rows, terms.support as usize);
+    if run.end <= run.first {
+        return standing;
+    }
+    let mut words = Words { table, ring, marks };
+    search_cuts(sheet, terms, column, run, standing, &mut words)
+}
+
+// One column's search.
 pub fn search_column(
     sheet: &LentSheet,
     terms: Terms,
@@ -312,13 +315,8 @@ pub fn search_column(
     ensures { ColumnSearched (sheet_in sheet.now) terms column standing scratch.old result scratch.new }
 {
     let rows = sheet.measured.size.rows;
-    let run = support_feasible_splits(places_of(sheet, column), rows, terms.support as usize);
-    if run.end <= run.first {
-        return standing;
-    }
-    let mut course = begin_column(rows, run.first, run.end - 1, standing, scratch);
-    while let Some(first) = next_interval(rows, course.queue, scratch) {
-        course = turn(sheet, terms, column, course, first, scratch);
-    }
-    course.standing
+    let (table, others) = scratch.split_at_mut(TABLE_WORDS * rows);
+    let (ring, others) = others.split_at_mut(RING_WORDS * rows);
+    let (marks, _) = others.split_at_mut(rows);
+    search_in(sheet, terms, column, standing, table, ring, marks)
 }

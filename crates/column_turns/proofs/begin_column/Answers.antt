@@ -5,7 +5,6 @@ use mathlib.Core.List.{◌++◌}
 use Rattle.column_turns.proofs.Queueing.{part_full}
 use Rattle.column_turns.proofs.Loop.{first_pushing, none_waits}
 use Rattle.interval_queue.specs.declared.Queue.{Queue}
-use Rattle.column_turns.specs.Lent.{ring_of}
 use Rattle.column_turns.specs.Parts.{Pushing}
 use Rattle.std.specs.Prelude.{None}
 use Rattle.column_turns.proofs.begin_column.Goals as goal
@@ -15,8 +14,8 @@ queue_part-queue-requires c =
     let start = c in
     let a = start.args in
     let none : c.default.result ≡ record { head = 0; waiting = 0 } = λ k. record { head = c.default.ensures.0 k; waiting = c.default.ensures.1 k } in
-    subst (λ (q : Queue). Pushing a.rows a.scratch.now q (record { first = a.first; last = a.last; left = None; right = None })) (sym none)
-    (first_pushing a.rows a.first a.last a.scratch.now start.requires.0 start.requires.1 start.requires.2)
+    subst (λ (q : Queue). Pushing a.words.now q (record { first = a.first; last = a.last; left = None; right = None })) (sym none)
+    (first_pushing a.first a.last a.words.now start.requires.0 start.requires.1 start.requires.2)
 
 pub returns : goal.returns
 returns c =
@@ -29,7 +28,7 @@ returns c =
         zeros = λ k. record { left = c.default-2.ensures.0 k; right = c.default-2.ensures.1 k };
         queue =
             queued.contents_are
-            ∙ (λ k. none_waits (ring_of a.rows a.scratch.now) c.default.result (omega (arith, c.default.ensures.1)) k
+            ∙ (λ k. none_waits a.words.now.ring.now c.default.result (omega (arith, c.default.ensures.1)) k
             ++ part_full (record { first = a.first; last = a.last; left = None; right = None }) start.requires.1 k);
         sane = queued.sane;
       };

@@ -2,7 +2,7 @@
 use Rattle.sheet.specs.Sheet.{Sheet}
 use Rattle.sheet.specs.Lent.{sheet_in}
 use Rattle.column_turns.specs.declared.Course.{Course}
-use Rattle.column_turns.proofs.Lent.{kept_same}
+use Rattle.column_turns.proofs.Lent.{same_words}
 use Rattle.column_turns.proofs.Places.{placed_in}
 use Rattle.column_turns.proofs.Turns.{after_none, after_some, turn_attempts, turn_done}
 use Rattle.column_turns.proofs.turn.Goals as goal
@@ -21,16 +21,16 @@ returns-in_default c =
     let s : Sheet = sheet_in a.sheet.now in
     let pruned = c.prune-pruned in
     let next : Course = record { standing = a.course.standing; zeros = a.course.zeros; queue = a.first.queue } in
-    turn_done s a.terms a.column a.scratch.now a.course a.first start.requires _ c.places_of-places.ensures pruned.result pruned.ensures a.scratch.now next
-    (λ p state matches. after_none s a.terms a.column p a.scratch.now next state pruned.result c.in_default.is matches)
-    (kept_same s.rows a.scratch.now)
+    turn_done s a.terms a.column a.words.now a.course a.first start.requires _ c.places_of-places.ensures pruned.result pruned.ensures a.words.now next
+    (λ p state matches. after_none s a.terms a.column p a.words.now next state pruned.result c.in_default.is matches)
+    (same_words a.words.now)
 
 pub try_interval-requires : goal.try_interval-requires
 try_interval-requires c =
     let start = c in
     let a = start.args in
     let pruned = c.prune-pruned in
-    turn_attempts (sheet_in a.sheet.now) a.terms a.column a.scratch.now a.course a.first start.requires _ c.places_of-places.ensures pruned.result pruned.ensures
+    turn_attempts (sheet_in a.sheet.now) a.terms a.column a.words.now a.course a.first start.requires _ c.places_of-places.ensures pruned.result pruned.ensures
     c.in-Some.left c.in-Some.is
 
 pub returns : goal.returns
@@ -40,7 +40,7 @@ returns c =
     let s : Sheet = sheet_in a.sheet.now in
     let pruned = c.prune-pruned in
     let tried = c.try_interval in
-    turn_done s a.terms a.column a.scratch.now a.course a.first start.requires _ c.places_of-places.ensures pruned.result pruned.ensures
-    tried.new.scratch tried.result
-    (λ p state matches. after_some s a.terms a.column p tried.new.scratch tried.result state pruned.result c.in-Some.left c.in-Some.is (tried.ensures.matches p state matches))
+    turn_done s a.terms a.column a.words.now a.course a.first start.requires _ c.places_of-places.ensures pruned.result pruned.ensures
+    tried.new.words tried.result
+    (λ p state matches. after_some s a.terms a.column p tried.new.words tried.result state pruned.result c.in-Some.left c.in-Some.is (tried.ensures.matches p state matches))
     tried.ensures.kept

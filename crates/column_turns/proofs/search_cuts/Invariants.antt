@@ -1,4 +1,4 @@
--- `column_turns::search_column` meets its contract. By whether there is a feasible cut; the loop's invariant: the course stands for a state of the column's run, which may be
+-- `column_turns::search_cuts` meets its contract. The loop's invariant: the course stands for a state of the column's run, which may be
 -- counted on. The measure is the weight of what waits.
 use Prim.Native.Nat.{◌*◌, ◌≤◌}
 use Rattle.basics.specs.Lists.{total}
@@ -6,17 +6,17 @@ use Rattle.sheet.specs.Limits.{most_columns}
 use Rattle.sheet.specs.Lent.{sheet_in}
 use Rattle.interval_queue.specs.Ring.{contents}
 use Rattle.column_search.specs.Loop.{weight}
-use Rattle.column_turns.specs.Lent.{ring_of, RestKept}
+use Rattle.column_turns.specs.Ready.{SameWords}
 use Rattle.column_turns.specs.Promise.{most_tries}
 use Rattle.column_turns.specs.Course.{Stands, Begun}
-use Rattle.column_turns.proofs.search_column.Given as goal
+use Rattle.column_turns.proofs.search_cuts.Given as goal
 
 abbrev pub invariant-loop-first : goal.invariant-loop-first
 invariant-loop-first l =
-    Begun (sheet_in l.sheet) l.terms l.column l.scratch
+    Begun (sheet_in l.sheet) l.terms l.column l.words
     × (l.initial.course.standing.tried ≤ most_columns * most_tries)
-    × Stands (sheet_in l.sheet) l.terms l.column l.initial.course.standing l.scratch l.course
-    × RestKept l.rows l.initial.scratch l.scratch
+    × Stands (sheet_in l.sheet) l.terms l.column l.initial.course.standing l.words l.course
+    × SameWords l.initial.words l.words
 
 abbrev pub decreases-loop-first : goal.decreases-loop-first
-decreases-loop-first l = total weight (contents (ring_of l.rows l.scratch) l.course.queue)
+decreases-loop-first l = total weight (contents l.words.ring.now l.course.queue)
