@@ -34,7 +34,7 @@ pub struct Tries<'a> {
     pub zeros: Zeros,
 }
 
-// What a better rule must beat, by how far cuts may differ (`gap`), and whether support is at most 1 (`small`).
+// What a better rule must beat (`best`), the gap that is allowed, and whether support is at most 1 (`small`).
 #[derive(Clone, Copy)]
 pub struct Target {
     pub gap: u32,

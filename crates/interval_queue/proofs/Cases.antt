@@ -3,13 +3,13 @@ use mathlib.Core.Path.{◌≡◌, refl, sym, ap, ◌∙◌}
 use Prim.Native.Nat.{ℕ, zero, suc, ◌+◌, ◌-◌, ◌*◌, ◌≤◌, ◌<◌}
 use native.Mathlib.Omega.{arith}
 use mathlib.Core.List.{List}
-use lib.Dec.{leb, ltb, eqb, le→leb, lt→ltb}
+use lib.Dec.{T, leb, ltb, eqb, le→leb, lt→ltb}
 use Rattle.std.specs.Prelude.{Some, None}
 use Rattle.basics.proofs.Choice.{order, pick_true, pick_false, or_left, or_right, nor_both, nleb, nltb, eqb_no, eqb_yes}
 use Rattle.interval_pruner.specs.declared.Bound.{Bound}
 use Rattle.interval_queue.specs.declared.Queue.{Queue}
 use Rattle.interval_queue.specs.declared.Popped.{Popped}
-use Rattle.interval_queue.specs.Ring.{tried_in, slots_of, slot_of, stored, loaded, full, empty, pushed, pushed_words, popped, taken}
+use Rattle.interval_queue.specs.Ring.{tried_in, slots_of, slot_of, stored, loaded, full, empty, pushed, pushed_words, PushedTo, popped, taken}
 
 -- a word read back as a remembered cut
 pub tried_none : (w : ℕ) → w ≡ 0 → tried_in w ≡ None
@@ -34,25 +34,16 @@ unfolding slot_of
 slot_round head k slots h = pick_false (ltb (head + k) slots) _ _ (nltb (head + k) slots h)
 
 module _ (words : List ℕ) (q : Queue) where
-  pub push_out : slots_of words ≤ q.head → pushed words q ≡ q
-  unfolding pushed
-  push_out h =
-      pick_true (full words q) _ _ (or_left (leb (slots_of words) q.head) (leb (slots_of words) q.waiting) (le→leb (slots_of words) q.head h))
+  refused : (i : Bound) → T (full words q) → PushedTo words q i q words
+  unfolding pushed pushed_words
+  refused i t = (sym (pick_true (full words q) _ _ t), sym (pick_true (full words q) _ _ t))
 
-  pub push_out_words : (i : Bound) → slots_of words ≤ q.head → pushed_words words q i ≡ words
-  unfolding pushed_words
-  push_out_words i h =
-      pick_true (full words q) _ _ (or_left (leb (slots_of words) q.head) (leb (slots_of words) q.waiting) (le→leb (slots_of words) q.head h))
+  -- a push in each case: the queue and the words that it leaves
+  pub push_out : (i : Bound) → slots_of words ≤ q.head → PushedTo words q i q words
+  push_out i h = refused i (or_left (leb (slots_of words) q.head) (leb (slots_of words) q.waiting) (le→leb (slots_of words) q.head h))
 
-  pub push_full : slots_of words ≤ q.waiting → pushed words q ≡ q
-  unfolding pushed
-  push_full h =
-      pick_true (full words q) _ _ (or_right (leb (slots_of words) q.head) (leb (slots_of words) q.waiting) (le→leb (slots_of words) q.waiting h))
-
-  pub push_full_words : (i : Bound) → slots_of words ≤ q.waiting → pushed_words words q i ≡ words
-  unfolding pushed_words
-  push_full_words i h =
-      pick_true (full words q) _ _ (or_right (leb (slots_of words) q.head) (leb (slots_of words) q.waiting) (le→leb (slots_of words) q.waiting h))
+  pub push_full : (i : Bound) → slots_of words ≤ q.waiting → PushedTo words q i q words
+  push_full i h = refused i (or_right (leb (slots_of words) q.head) (leb (slots_of words) q.waiting) (le→leb (slots_of words) q.waiting h))
 
   pub push_room : q.head < slots_of words → q.waiting < slots_of words → pushed words q ≡ record { head = q.head; waiting = q.waiting + 1 }
   unfolding pushed

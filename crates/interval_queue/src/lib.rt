@@ -91,7 +91,7 @@ fn load(words: &[u32], at: usize) -> Bound
 }
 
 // One interval more at the end; a full ring stays as it is.
-#[tactic(auto, using(crate::proofs::Cases::push_out, crate::proofs::Cases::push_out_words, crate::proofs::Cases::push_full, crate::proofs::Cases::push_full_words, crate::proofs::Cases::push_room, crate::proofs::Cases::push_room_words))]
+#[tactic(auto, using(crate::proofs::Cases::push_room, crate::proofs::Cases::push_room_words))]
 pub fn push(words: &mut [u32], queue: Queue, bound: Bound) -> Queue
     ensures { PushedTo words.old queue bound result words.new }
 {
