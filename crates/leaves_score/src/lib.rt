@@ -6,7 +6,7 @@ mod two_sides;
 
 ghost use Rattle.std.specs.Prelude.{◌≡◌};
 ghost use Rattle.sheet.specs.Lent.{sheet_in};
-ghost use Rattle.leaves_score.specs.Scan.{perfect, scanned, sides_of};
+ghost use Rattle.leaves_score.specs.Scan.{perfect, sides_of};
 ghost use Rattle.leaves_score.specs.SideLists.{both_of};
 ghost use Rattle.leaves_score.specs.Lists.{Scannable, scan_of, go_left};
 
@@ -30,9 +30,11 @@ fn is_perfect(sides: &[SideScan; SIDES]) -> bool
     sides[0].best.score == sides[0].size && sides[1].best.score == sides[1].size
 }
 
-fn scan_columns(sheet: &LentSheet, support: u32, marks: &[u32]) -> [SideScan; SIDES]
+// The two sides of the root split that sends the rows with mark 0 left. The search calls it on an accepted sheet only, which is what it asks for. The
+// records stay where they are: a function that hands both of them on copies them by `memcpy`, which a C caller's archive would want from outside.
+pub fn get_leaves_score(sheet: &LentSheet, support: u32, marks: &[u32]) -> Sides
     requires { Scannable (scan_of (sheet_in sheet.now)) marks.now }
-    ensures { both_of result ≡ scanned (scan_of (sheet_in sheet.now)) support (go_left marks.now) }
+    ensures { result ≡ sides_of (scan_of (sheet_in sheet.now)) support (go_left marks.now) }
 {
     let size = sheet.measured.size;
     let parts = part_rows(size.rows, sheet.measured.codes, marks);
@@ -46,15 +48,6 @@ fn scan_columns(sheet: &LentSheet, support: u32, marks: &[u32]) -> [SideScan; SI
             break;
         }
     }
-    sides
-}
-
-// The two sides of the root split that sends the rows with mark 0 left. The search calls it on an accepted sheet only, which is what it asks for.
-pub fn get_leaves_score(sheet: &LentSheet, support: u32, marks: &[u32]) -> Sides
-    requires { Scannable (scan_of (sheet_in sheet.now)) marks.now }
-    ensures { result ≡ sides_of (scan_of (sheet_in sheet.now)) support (go_left marks.now) }
-{
-    let sides = scan_columns(sheet, support, marks);
     let left = sides[0].to_side();
     let right = sides[1].to_side();
     Sides { left, right }
