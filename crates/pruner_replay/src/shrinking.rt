@@ -8,10 +8,6 @@ use interval_pruner::{Bound, Target, Tries, Zeros, add_result};
 
 // Gaps 0 to 4, and bests too.
 const LEVELS: u32 = 5;
-// Both with support 1.
-const SMALL_TERMS: u32 = 25;
-// Both with support 1 and then with support 2.
-const TERMS: u32 = 50;
 // Errors 0 to 3.
 const ERRORS: u32 = 4;
 // The two of a cut.
@@ -25,12 +21,7 @@ const KEPT: usize = 1;
 
 const HOPELESS: usize = 2;
 
-fn answer(tries: &Tries, bound: Bound, term: u32) -> usize {
-    let target = Target {
-        gap: term % LEVELS,
-        best: term / LEVELS % LEVELS,
-        small: term < SMALL_TERMS,
-    };
+fn answer(tries: &Tries, bound: Bound, target: Target) -> usize {
     let shrunk = match interval_shrinking(tries, bound, target) {
         None => 0,
         Some(left) => KEPT | (left.first << 8) | (left.last << 16),
@@ -42,10 +33,35 @@ fn answer(tries: &Tries, bound: Bound, term: u32) -> usize {
     }
 }
 
-fn tell_every_term(tries: &Tries, bound: Bound, tally: &mut Tally) {
-    for term in 0..TERMS {
-        tally.tell(answer(tries, bound, term));
+// Every gap. The tally goes by value, here and below: behind a reference it would be stored and read again at every case.
+fn with_gaps(tries: &Tries, bound: Bound, target: Target, mut tally: Tally) -> Tally {
+    for gap in 0..LEVELS {
+        tally.tell(answer(tries, bound, Target { gap, ..target }));
     }
+    tally
+}
+
+// Every best, and every gap with it.
+fn with_bests(tries: &Tries, bound: Bound, target: Target, mut tally: Tally) -> Tally {
+    for best in 0..LEVELS {
+        tally = with_gaps(tries, bound, Target { best, ..target }, tally);
+    }
+    tally
+}
+
+// Both with support 1 and then with support 2.
+fn tell_every_term(tries: &Tries, bound: Bound, tally: &mut Tally) {
+    let target = Target {
+        gap: 0,
+        best: 0,
+        small: true,
+    };
+    let small = with_bests(tries, bound, target, *tally);
+    let other = Target {
+        small: false,
+        ..target
+    };
+    *tally = with_bests(tries, bound, other, small);
 }
 
 // Of no cut there are no errors.
