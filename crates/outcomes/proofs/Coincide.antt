@@ -1,8 +1,11 @@
 -- Both outcomes are what the contract says, so they are the same.
 use mathlib.Core.Path.{sym, ◌∙◌}
+use Rattle.std.proofs.Common.{◌≡◌, ℕ, ◌+◌, ◌<◌, min, List, length, take, drop, Option, None, Some, Ok, inl, inr, ap, arith}
+use Rattle.std.proofs.lemmas.List.{length-append, length-take-le, get_or-take, take_at, drop_at}
+use Rattle.std.proofs.lemmas.Bool.{cases_lt, cases_order}
 use Rattle.prepare.proofs.Soundness.{determined}
 use Rattle.rule_finder.proofs.Laws.{outcomes_coincide}
-use Rattle.outcomes.specs.Outcomes.{Equation, ThresholdBetween, GoesLeft, RangeAnswer, SentLeft, LeftOfCut, FirstBadValue, FirstBadLabel, SizeHolds, GridHolds, TermsHold, Check, Prepare, PlaceAt, ReaderLowerBound, ReaderUpperBound, LowerBound, UpperBound, FeasibleSplits, AddResult, SubintervalPruning, IntervalShrinking, NeighbourhoodPruning, Push, Pop, GetLeavesScore, Search, Judge, ReadSheet, WriteAnswer, BitsOf, RunText, TellVerdict, TellSearched, FinderPrepare, FinderCheck, FinderSearch}
+use Rattle.outcomes.specs.Outcomes.{Equation, ThresholdBetween, GoesLeft, RangeAnswer, SentLeft, LeftOfCut, RunFits, RunLength, FullRead, ReadFull, FirstBadValue, FirstBadLabel, SizeHolds, GridHolds, TermsHold, Check, Prepare, PlaceAt, ReaderLowerBound, ReaderUpperBound, LowerBound, UpperBound, FeasibleSplits, AddResult, SubintervalPruning, IntervalShrinking, NeighbourhoodPruning, Push, Pop, GetLeavesScore, Search, Judge, ReadSheet, WriteAnswer, BitsOf, RunText, TellVerdict, TellSearched, FinderPrepare, FinderCheck, FinderSearch}
 
 pub equation : Equation
 equation A said a b p q = p ∙ sym q
@@ -21,6 +24,37 @@ sent_left values threshold a b p q = p ∙ sym q
 
 pub left_of_cut : LeftOfCut
 left_of_cut values at a b p q = p ∙ sym q
+
+-- a run ends at a word of another number, and a longer run would hold that word
+no_longer : (words : List ℕ) (number n m : ℕ) → RunFits words number n → RunFits words number m → n < m → ⊥
+no_longer words number n m p q l =
+    let size : length (take m words) ≡ m = length-take-le m words q.within in
+    p.ended (omega arith) (sym (get_or-take m words n 0 l) ∙ q.held n 0 (omega arith))
+
+pub run_length : RunLength
+run_length words number n m p q =
+    elim (cases_order n m) [
+      | inl same ↦ same
+      | inr apart ↦ elim apart [ inl l ↦ absurd (no_longer words number n m p q l) | inr l ↦ absurd (no_longer words number m n q p l) ]
+    ]
+
+-- as many bytes come as there are and there is room for, the first ones, and the reader has the others left
+came : (E : Type 0) (xs room : List ℕ) (n : ℕ) (left : Option (List ℕ)) → FullRead E (Some xs) left (Ok n) room
+    → (n ≡ min (length room) (length xs)) × (take n room ≡ take n xs) × (left ≡ Some (drop n xs))
+came E xs room n None p = absurd p.read
+came E xs room n (Some ys) p =
+    let filled : length (take n room) ≡ n = sym p.within.1 in
+    let size : length xs ≡ length (take n room) + length ys = ap length p.read ∙ length-append (take n room) ys in
+    let count : n ≡ min (length room) (length xs) =
+    elim (cases_lt n (length room)) [ inl l ↦ (let none : length ys ≡ 0 = ap length (p.to_the_end l) in omega (arith, p.within.0)) | inr full ↦ omega (arith, p.within.0) ] in
+    (count, sym (ap (take n) p.read ∙ take_at (take n room) ys n filled), ap Some (sym (ap (drop n) p.read ∙ drop_at (take n room) ys n filled)))
+
+pub read_full : ReadFull
+read_full E xs n m room room' left left' same p q =
+    let a = came E xs room n left p in
+    let b = came E xs room' m left' q in
+    let count : n ≡ m = omega (arith, a.0, b.0) in
+    (count, a.1 ∙ ap (λ k. take k xs) count ∙ sym b.1, a.2 ∙ ap (λ k. Some (drop k xs)) count ∙ sym b.2)
 
 pub first_bad_value : FirstBadValue
 first_bad_value values a b p q = p ∙ sym q

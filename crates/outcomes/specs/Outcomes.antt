@@ -1,7 +1,9 @@
 -- For a signer. "show that two outcomes fitting the contract coincide, or list the exception and why": one statement for each public function,
--- over its result and every lent word at exit. A contract is an equation, so each says the same of what the equation names. Statements only;
--- `proofs/Coincide.antt` proves them.
-use Rattle.std.specs.Prelude.{◌≡◌, ℕ, Bool, List, length, get_or, Option, Result, Float}
+-- over its result and every lent word at exit. A contract is an equation, so each says the same of what the equation names; two are no equations, and
+-- their clauses stand here one for one. Statements only; `proofs/Coincide.antt` proves them.
+use Rattle.std.specs.Prelude.{◌≡◌, ◌≢◌, ◌<◌, ◌≤◌, ℕ, Bool, List, length, take, get_or, slice_index, All, Option, Some, Result, Ok, IfOk, Float}
+use Rattle.std.specs.Io.{ReadsAtMost}
+use Rattle.std.specs.Io.KnownBytes.{Consumes, IsAtEnd}
 use Rattle.std.specs.Float.{binary64}
 use Rattle.std.specs.Float.Ieee.{to_bits}
 use Rattle.basics.specs.Walk.{place_among}
@@ -64,6 +66,32 @@ SentLeft = (values : List Float) (threshold : Float) → One ℕ (count_left val
 
 abbrev pub LeftOfCut : Type 0
 LeftOfCut = (values : List Float) (at : ℕ) → One ℕ (left_of_cut values at)
+
+-- ---- runs and readers: the two whose contracts are no equations
+
+-- the count n fits `run_length`
+pub record RunFits (words : List ℕ) (number n : ℕ) : Type 0 where
+  pub within : n ≤ length words
+  pub held : All (λ word. word ≡ number) (take n words)
+  pub ended : n < length words → slice_index words n ≢ number
+
+abbrev pub RunLength : Type 0
+RunLength = (words : List ℕ) (number n m : ℕ) → RunFits words number n → RunFits words number m → n ≡ m
+
+-- the answer, what the reader has left and the room at exit fit `read_full`, of a reader that had the known bytes; E is the type of its errors
+pub record FullRead (E : Type 0) (known left : Option (List ℕ)) (answer : Result ℕ E) (room : List ℕ) : Type 0 where
+  pub within : ReadsAtMost answer room
+  pub read : IfOk answer (λ n. Consumes known left (take n room))
+  pub to_the_end : IfOk answer (λ n. n < length room → IsAtEnd left)
+
+-- of a reader whose bytes are known, where it gives no error. What the room holds past the bytes that came is left open.
+abbrev pub ReadFull : Type 1
+ReadFull =
+    (E : Type 0) (xs : List ℕ) (n m : ℕ) (room room' : List ℕ) (left left' : Option (List ℕ))
+    → length room ≡ length room'
+    → FullRead E (Some xs) left (Ok n) room
+    → FullRead E (Some xs) left' (Ok m) room'
+    → (n ≡ m) × (take n room ≡ take m room') × (left ≡ left')
 
 -- ---- the sheet
 
