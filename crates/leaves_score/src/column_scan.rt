@@ -55,7 +55,7 @@ fn take_row(side: &mut SideScan, column: usize, label: usize, value: f64)
     if side.is_only_counting(value) {
         side.count(label, value);
     } else {
-        side.advance(column, label, value);
+        *side = side.advanced(column, label, value);
     }
 }
 

@@ -110,6 +110,15 @@ impl SideScan {
         *self = self.step(column, label, value);
     }
 
+    // From a record to a record, by way of `advance`.
+    pub fn advanced(mut self, column: usize, label: usize, value: f64) -> SideScan
+        requires { Steppable self label }
+        ensures { result ≡ step_of self column label value }
+    {
+        self.advance(column, label, value);
+        self
+    }
+
     // Whether a row of that value is only counted.
     #[tactic(auto, unfolding(crate::specs::OneSide::quiet))]
     pub fn is_only_counting(&self, value: f64) -> bool
